@@ -1,0 +1,1 @@
+// No code: the words that every definition of the house is written in, and their laws.
