@@ -1,4 +1,5 @@
 pub mod Bools
+pub mod Calls
 pub mod Members
 pub mod Numbers
 pub mod Parts

@@ -2,7 +2,7 @@
 -- Assumes nothing.
 use Prim.Native.Nat.{ℕ, zero, suc, _+_}
 use mathlib.Core.Bool.{Bool, true, false, not, cond, _&&_, _||_}
-use mathlib.Core.List.{List, [], _∷_}
+use mathlib.Core.List.{List, [], _∷_, _++_}
 use lib.ListN.{take, drop}
 use lib.Dec.{eqb}
 
@@ -12,6 +12,11 @@ use lib.Dec.{eqb}
 unfoldable pub every : ℕ → (ℕ → Bool) → Bool
 every zero test = true
 every (suc n) test = every n test && test n
+
+-- one of them passes
+unfoldable pub some : ℕ → (ℕ → Bool) → Bool
+some zero test = false
+some (suc n) test = some n test || test n
 
 -- 1 + the smallest of them that passes, or 0
 unfoldable pub orElse : ℕ → ℕ → ℕ
@@ -26,6 +31,11 @@ first test (suc n) = orElse (first test n) (cond (test n) (suc n) 0)
 unfoldable pub count : (ℕ → Bool) → ℕ → ℕ
 count test zero = 0
 count test (suc n) = cond (test n) 1 0 + count test n
+
+-- what f gives for each of them, in order
+unfoldable pub tabulate : (ℕ → ℕ) → ℕ → List ℕ
+tabulate f zero = []
+tabulate f (suc n) = tabulate f n ++ (f n ∷ [])
 
 -- ---- lists
 

@@ -1,0 +1,4 @@
+pub mod Assembler
+pub mod Cases
+pub mod Laws
+pub mod Unique

@@ -1,0 +1,105 @@
+-- `code_good` meets its contract. The invariants: nothing bad was found, every program passed is good, and so is every instruction passed of this
+-- one. The measures are how many are left. Leaving by the label, this instruction makes the whole check fail. Assumes nothing.
+use mathlib.Core.Bool.{true, false}
+use mathlib.Core.Path.{_≡_, refl, sym, _∙_}
+use Prim.Native.Nat.{_≤_, _<_, _-_}
+use native.Mathlib.Omega.{arith}
+use borrow.Author.Tests.{not-true, not-false}
+use borrow.Author.Needs.{needs}
+use denote.Ref.{now}
+use Rattle.base.proofs.Numbers.{every-none, every-more}
+use Rattle.base.specs.Words.{every}
+use Rattle.image.specs.Instruction.{instructionsOf, placeGood, programGood}
+use Rattle.image.specs.Image.{countOf, partOf}
+use Rattle.image.proofs.Laws.{program-good, code-bad, code-good}
+use Rattle.image.proofs.code_good.Statement.{statement}
+use Rattle.image.proofs.code_good.Tie as tie
+
+abbrev Inv-loop : tie.InvT-loop
+Inv-loop bytes n good₀ p part m i₀ good i = (i ≤ m) × (good ≡ true) × (every i (λ k. placeGood part k) ≡ true)
+
+abbrev μ-loop : tie.MeasureT-loop
+μ-loop bytes n good₀ p part m i₀ good i = m - i
+
+abbrev Inv-programs : tie.InvT-programs
+Inv-programs bytes n good₀ p₀ good p = (p ≤ n) × (good ≡ true) × (every p (λ q. programGood (partOf bytes q)) ≡ true)
+
+abbrev μ-programs : tie.MeasureT-programs
+μ-programs bytes n good₀ p₀ good p = n - p
+
+programs-holds : tie.Need-programs-holds Inv-loop μ-loop Inv-programs μ-programs
+programs-holds c = (search needs, refl, every-none _)
+
+part-of-requires : tie.Need-part-of-requires Inv-loop μ-loop Inv-programs μ-programs
+part-of-requires c κs = (c .before .before .before .pre .0, omega arith, omega arith)
+
+loop-holds : tie.Need-loop-holds Inv-loop μ-loop Inv-programs μ-programs
+loop-holds c = (search needs, c .before .before .programs .inv .1, every-none _)
+
+place-good-requires : tie.Need-place-good-requires Inv-loop μ-loop Inv-programs μ-programs
+place-good-requires c κs = search needs
+
+add-i : tie.Need-add-i Inv-loop μ-loop Inv-programs μ-programs
+add-i c = search needs
+
+loop-less : tie.Need-loop-less Inv-loop μ-loop Inv-programs μ-programs
+loop-less c = search needs
+
+loop-again : tie.Need-loop-again Inv-loop μ-loop Inv-programs μ-programs
+loop-again c =
+    let inv = c .before .before .before .loop .inv in
+    (search needs, inv .1, every-more _ _ (inv .2) (sym (c .before .place-good .ensures) ∙ not-false _ (c .if1 .left)))
+
+add-p : tie.Need-add-p Inv-loop μ-loop Inv-programs μ-programs
+add-p c = search needs
+
+programs-less : tie.Need-programs-less Inv-loop μ-loop Inv-programs μ-programs
+programs-less c = search needs
+
+programs-again : tie.Need-programs-again Inv-loop μ-loop Inv-programs μ-programs
+programs-again c =
+    let inner = c .before in
+    let part = inner .before .part-of in
+    let e : inner .loop .i ≡ instructionsOf (now (part .result)) = omega arith in
+    let good = program-good (now (part .result)) (inner .loop .i) e (inner .loop .inv .2) in
+    (search needs, inner .loop .inv .1, every-more _ _ (inner .before .before .before .programs .inv .2) (rw (part .ensures .bytes-are) at good))
+
+returns : tie.Need-returns Inv-loop μ-loop Inv-programs μ-programs
+returns c =
+    let outer = c .before in
+    let bytes = now (outer .before .before .args .bytes) in
+    let e : outer .programs .p ≡ countOf bytes = omega arith in
+    outer .programs .inv .1 ∙ sym (code-good bytes (outer .programs .p) e (outer .programs .inv .2))
+
+returns-2 : tie.Need-returns-2 Inv-loop μ-loop Inv-programs μ-programs
+returns-2 c =
+    let inner = c .before .before .before in
+    let outer = inner .before .before .before in
+    let part = inner .before .part-of in
+    let i = inner .loop .i in
+    let k : i < instructionsOf (now (part .result)) = omega arith in
+    let bad : placeGood (now (part .result)) i ≡ false = sym (c .before .place-good .ensures) ∙ not-true _ (c .if1 .taken) in
+    sym
+    (code-bad (now (outer .before .before .args .bytes)) (outer .programs .p) i (omega arith)
+    (rw (part .ensures .bytes-are) at k) (rw (part .ensures .bytes-are) at bad))
+
+pub code-good-spec : {M : Type 1} → statement M
+code-good-spec =
+    tie.close
+    (tie.spec
+    Inv-loop
+    μ-loop
+    Inv-programs
+    μ-programs
+    programs-holds
+    part-of-requires
+    loop-holds
+    place-good-requires
+    add-i
+    loop-less
+    loop-again
+    add-p
+    programs-less
+    programs-again
+    returns
+    returns-2)

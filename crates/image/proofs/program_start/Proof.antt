@@ -1,0 +1,32 @@
+-- `program_start` meets its contract: where nothing is refused the part begins at the program's offset; otherwise there is none. Assumes nothing.
+use mathlib.Core.Path.{_≡_, sym, _∙_}
+use native.Mathlib.Omega.{arith}
+use borrow.Author.Needs.{needs}
+use denote.Ref.{now}
+use Rattle.image.specs.Image.{programRefusalOf}
+use Rattle.image.proofs.Laws.{handed-low, handed-part, handed-nothing}
+use Rattle.image.proofs.program_start.Statement.{statement}
+use Rattle.image.proofs.program_start.Tie as tie
+
+found : (c : tie.Then1) → programRefusalOf (now (c .before .before .before .args .image)) (c .before .before .before .args .number) ≡ 0
+found c = sym (c .before .program-refusal .ensures .answer) ∙ c .if1 .taken
+
+program-refusal-requires : tie.Need-program-refusal-requires
+program-refusal-requires c κs = search needs
+
+offset-requires : tie.Need-offset-requires
+offset-requires c κs = let a = c .before .before .before .args in omega (arith, handed-low (now (a .image)) (a .number) (found c))
+
+returns : tie.Need-returns
+returns c =
+    let a = c .before .before .before .before .args in
+    c .offset .ensures .0 ∙ sym (handed-part (now (a .image)) (a .number) (found (c .before)) .1)
+
+returns-2 : tie.Need-returns-2
+returns-2 c =
+    let a = c .before .before .before .args in
+    sym (handed-nothing (now (a .image)) (a .number) (λ e. c .if1 .left (c .before .program-refusal .ensures .answer ∙ e)) .1)
+
+pub program-start-spec : {M : Type 1} → statement M
+program-start-spec =
+    tie.close (tie.spec program-refusal-requires offset-requires returns returns-2)

@@ -1,0 +1,5 @@
+pub mod Limits
+pub mod Refusals
+pub mod Instruction
+pub mod Image
+pub mod Opened

@@ -1,0 +1,277 @@
+// The image reader: document 01, "Sizes" and "The image: counts and offsets".
+ghost use mathlib.Core.Path.{_≡_};
+ghost use mathlib.Core.Bool.{true};
+ghost use Prim.Native.Nat.{_^_, _<_, _≤_};
+ghost use Rattle.image.specs.Image.{byteAt, numberAt, countOf, ruleByte, headerOf, secondRule, offsetOf, partOf, Part, startOf};
+ghost use Rattle.image.specs.Image.{headerGood, extentGood, extentsGood, offsetsGood, codeGood, refusalOf};
+ghost use Rattle.image.specs.Image.{ProgramSays, ProgramRefusalSays};
+
+mod instruction;
+
+// An image's header: how many programs it has, its rule byte and the byte that is 0.
+pub struct Image {
+    pub count: u16,
+    pub rule: u8,
+    pub zero: u8,
+}
+
+// The limits, named here and nowhere else; those that follow from others are computed from them.
+impl Image {
+    pub const PROGRAMS: usize = 64;
+
+    pub const INSTRUCTIONS: usize = 32;
+
+    pub const REGISTERS: usize = 8;
+
+    pub const LEAST_CELLS: usize = 1;
+
+    pub const CELLS: usize = 256;
+
+    pub const INSTRUCTION_BYTES: usize = 4;
+
+    pub const PROGRAM_BYTES: usize = Image::INSTRUCTIONS * Image::INSTRUCTION_BYTES;
+
+    pub const LEAST_BYTES: usize = 6;
+
+    pub const BYTES: usize = Image::LEAST_BYTES + Image::PROGRAMS * (2 + Image::PROGRAM_BYTES);
+
+    // The header of an image, 0 where bytes are missing.
+    pub fn header(bytes: &[u8]) -> Image
+        ensures { λ r. ⌜ r ≡ headerOf (now (bytes .entry)) ⌝ }
+    {
+        Image {
+            count: number_at(bytes, 0),
+            rule: byte_at(bytes, 2),
+            zero: byte_at(bytes, 3),
+        }
+    }
+
+    // Check 2.
+    fn valid(self) -> bool
+        ensures { λ r. ⌜ r ≡ headerGood self ⌝ }
+    {
+        instruction::all(
+            self.count as usize <= Image::PROGRAMS,
+            self.rule <= 2,
+            self.zero == 0,
+        )
+    }
+}
+
+// A refusal, by its number in document 01; the numbers are named here and nowhere else.
+pub struct Refusal {
+    pub number: u32,
+}
+
+impl Refusal {
+    pub const SIZE: u32 = 1;
+
+    pub const HEADER: u32 = 2;
+
+    pub const OFFSETS: u32 = 3;
+
+    pub const INSTRUCTION: u32 = 4;
+
+    pub const TABLE: u32 = 5;
+
+    pub const AREA_SIZE: u32 = 6;
+
+    pub const AREA: u32 = 7;
+
+    pub const NO_SUCH_PROGRAM: u32 = 8;
+
+    pub const WRONG_STATE: u32 = 9;
+
+    pub const NO_ROOM: u32 = 10;
+
+    pub const TOO_MANY: u32 = 11;
+
+    pub const NO_ORDER: u32 = 12;
+
+    // What a refusal of 1 to 4 adds to its number where the fresh image earns it.
+    pub const OF_FRESH: u32 = 20;
+}
+
+// The byte at a place, 0 past the end.
+fn byte_at(bytes: &[u8], at: usize) -> u8
+    ensures { λ r. ⌜ r ≡ byteAt (now (bytes .entry)) at ⌝ }
+{
+    if at < bytes.len() { bytes[at] } else { 0 }
+}
+
+// The number of 16 bits, low byte first, at a place.
+fn number_at(bytes: &[u8], at: usize) -> u16
+    requires { ⌜ at < 2 ^ 32 ⌝ }
+    ensures { λ r. ⌜ r ≡ numberAt (now (bytes .entry)) at ⌝ }
+{
+    let low = byte_at(bytes, at) as u16;
+    let high = byte_at(bytes, at + 1) as u16;
+    low + 256 * high
+}
+
+// The program count.
+pub fn count(bytes: &[u8]) -> usize
+    ensures { λ r. ⌜ (r ≡ countOf (now (bytes .entry))) × (r < 65536) ⌝ }
+{
+    Image::header(bytes).count as usize
+}
+
+// The rule byte.
+pub fn rule(bytes: &[u8]) -> u8
+    ensures { λ r. ⌜ r ≡ ruleByte (now (bytes .entry)) ⌝ }
+{
+    Image::header(bytes).rule
+}
+
+// Whether Rule 2 is in force; otherwise it is Rule 1.
+pub fn second_rule(bytes: &[u8]) -> bool
+    ensures { λ r. ⌜ r ≡ secondRule (now (bytes .entry)) ⌝ }
+{
+    rule(bytes) == 2
+}
+
+// Offset p of the image.
+fn offset(bytes: &[u8], p: usize) -> usize
+    requires { ⌜ p ≤ 65536 ⌝ }
+    ensures { λ r. ⌜ (r ≡ offsetOf (now (bytes .entry)) p) × (r < 65536) ⌝ }
+{
+    number_at(bytes, 4 + 2 * p) as usize
+}
+
+// Whether program p's offsets do not fall and its length is a multiple of 4 and at most 128.
+fn extent_good(bytes: &[u8], p: usize) -> bool
+    requires { ⌜ p < 65536 ⌝ }
+    ensures { λ r. ⌜ r ≡ extentGood (now (bytes .entry)) p ⌝ }
+{
+    let start = offset(bytes, p);
+    let end = offset(bytes, p + 1);
+    if end < start {
+        return false;
+    }
+    instruction::all(
+        true,
+        (end - start) % Image::INSTRUCTION_BYTES == 0,
+        end - start <= Image::PROGRAM_BYTES,
+    )
+}
+
+// Whether that holds of every program.
+fn extents_good(bytes: &[u8], n: usize) -> bool
+    requires { ⌜ (n ≡ countOf (now bytes)) × (n < 65536) ⌝ }
+    ensures { λ r. ⌜ r ≡ extentsGood (now (bytes .entry)) ⌝ }
+{
+    for p in 0..n {
+        if !extent_good(bytes, p) {
+            return false;
+        }
+    }
+    true
+}
+
+// Check 3.
+fn offsets_good(bytes: &[u8], n: usize) -> bool
+    requires { ⌜ (n ≡ countOf (now bytes)) × (n < 65536) ⌝ }
+    ensures { λ r. ⌜ r ≡ offsetsGood (now (bytes .entry)) ⌝ }
+{
+    let first = 2 * n + Image::LEAST_BYTES;
+    if bytes.len() < first {
+        return false;
+    }
+    if offset(bytes, 0) != first {
+        return false;
+    }
+    if !extents_good(bytes, n) {
+        return false;
+    }
+    offset(bytes, n) == bytes.len()
+}
+
+// The part of the image that program p is.
+pub fn part_of(bytes: &[u8], p: usize) -> &[u8]
+    requires { ⌜ (offsetsGood (now bytes) ≡ true) × (p < countOf (now bytes)) × (countOf (now bytes) < 65536) ⌝ }
+    ensures { λ r. ⌜ Part (bytes .entry) (offsetOf (now (bytes .entry)) p) (partOf (now (bytes .entry)) p) r ⌝ }
+{
+    let start = offset(bytes, p);
+    let end = offset(bytes, p + 1);
+    &bytes[start..end]
+}
+
+// Check 4: it stops at the first bad instruction of the first bad program.
+fn code_good(bytes: &[u8], n: usize) -> bool
+    requires { ⌜ (offsetsGood (now bytes) ≡ true) × (n ≡ countOf (now bytes)) × (n < 65536) ⌝ }
+    ensures { λ r. ⌜ r ≡ codeGood (now (bytes .entry)) ⌝ }
+{
+    let mut good = true;
+    'programs: for p in 0..n {
+        let part = part_of(bytes, p);
+        let m = part.len() / Image::INSTRUCTION_BYTES;
+        for i in 0..m {
+            if !instruction::place_good(part, i) {
+                good = false;
+                break 'programs;
+            }
+        }
+    }
+    good
+}
+
+// The refusal of an image: the number of the first of the checks 1 to 4 that fails, 0 where none does.
+pub fn image_refusal(bytes: &[u8]) -> u32
+    ensures { λ r. ⌜ r ≡ refusalOf (now (bytes .entry)) ⌝ }
+{
+    if bytes.len() < Image::LEAST_BYTES {
+        return Refusal::SIZE;
+    }
+    if Image::BYTES < bytes.len() {
+        return Refusal::SIZE;
+    }
+    let image = Image::header(bytes);
+    if !image.valid() {
+        return Refusal::HEADER;
+    }
+    let n = image.count as usize;
+    if !offsets_good(bytes, n) {
+        return Refusal::OFFSETS;
+    }
+    if !code_good(bytes, n) {
+        return Refusal::INSTRUCTION;
+    }
+    0
+}
+
+// Why no program is handed back: checks 1 to 4 and 8, 0 where one is.
+pub fn program_refusal(image: &[u8], number: usize) -> u32
+    ensures { λ r. ⌜ ProgramRefusalSays (now (image .entry)) number r ⌝ }
+{
+    let refused = image_refusal(image);
+    if refused != 0 {
+        return refused;
+    }
+    if number < count(image) {
+        0
+    } else {
+        Refusal::NO_SUCH_PROGRAM
+    }
+}
+
+// The program, as that very part of the image; empty on a refusal.
+pub fn program(image: &[u8], number: usize) -> &[u8]
+    ensures { λ r. ⌜ ProgramSays (image .entry) number r ⌝ }
+{
+    if program_refusal(image, number) == 0 {
+        part_of(image, number)
+    } else {
+        &image[..0]
+    }
+}
+
+// Where that part begins in the image; 0 on a refusal.
+pub fn program_start(image: &[u8], number: usize) -> usize
+    ensures { λ r. ⌜ r ≡ startOf (now (image .entry)) number ⌝ }
+{
+    if program_refusal(image, number) == 0 {
+        offset(image, number)
+    } else {
+        0
+    }
+}
