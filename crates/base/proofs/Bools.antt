@@ -60,3 +60,14 @@ and-right a b e = and-both a b e .1
 pub and-false : (a b : Bool) → b ≡ false → a && b ≡ false
 and-false true b e = e
 and-false false b e = refl
+
+-- two tests that hold together are one test
+pub same-test : {a b : Bool} → (a ≡ true → b ≡ true) → (b ≡ true → a ≡ true) → a ≡ b
+same-test {a = true} {b} f g = sym (f refl)
+same-test {a = false} {b = true} f g = g refl
+same-test {a = false} {b = false} f g = refl
+
+-- the second test is looked at where the first holds
+pub and-same : (a : Bool) {b c : Bool} → (a ≡ true → b ≡ c) → a && b ≡ a && c
+and-same true h = h refl
+and-same false h = refl

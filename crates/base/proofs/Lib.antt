@@ -1,6 +1,11 @@
 pub mod Bools
 pub mod Calls
+pub mod Counts
+pub mod Joins
 pub mod Members
 pub mod Numbers
 pub mod Parts
+pub mod Somes
+pub mod Tables
 pub mod Unique
+pub mod Walks

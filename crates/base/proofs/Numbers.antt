@@ -1,7 +1,7 @@
 -- The numbers below n: `every` and `first`. Assumes nothing.
 use mathlib.Core.Path.{_≡_, refl, sym, _∙_, ap}
 use mathlib.Core.Logic.{_⊎_, inl, inr}
-use mathlib.Core.Bool.{Bool, true, false, cond}
+use mathlib.Core.Bool.{Bool, true, false, not, cond, _&&_, false≢true}
 use Prim.Native.Nat.{ℕ, zero, suc, _+_, _≤_, _<_}
 use native.Mathlib.Nat.{not-suc-le-zero}
 use native.Mathlib.Numerals.{add-one}
@@ -113,3 +113,8 @@ first-unique p n v low is = go (zero-or v) (zero-or (first p n))
 -- it depends on what passes below n alone
 pub first-ext : (p q : ℕ → Bool) (n : ℕ) → ((i : ℕ) → i < n → p i ≡ q i) → first p n ≡ first q n
 first-ext p q n h = first-unique q n (first p n) (λ i l e. first-some p n i l (h i l ∙ e)) (λ i e. let t = first-is p n i e in (t .0, sym (h i (t .0)) ∙ t .1))
+
+pub every-ext : (n : ℕ) (f g : ℕ → Bool) → ((i : ℕ) → i < n → f i ≡ g i) → every n f ≡ every n g
+unfolding every
+every-ext zero f g h = refl
+every-ext (suc n) f g h = rw (every-ext n f g (λ i l. h i (omega arith)), h n (omega arith))

@@ -1,0 +1,200 @@
+-- A run on its way, the invariant of `take_turns`: what is left of the run, from this machine and this slot, ends as the whole run does.
+-- Assumes nothing.
+use Prim.Native.Nat.{ℕ, zero, suc, _+_, _*_, _≤_, _<_}
+use mathlib.Core.List.{List}
+use mathlib.Core.Path.{_≡_, refl, sym, ap, _∙_}
+use native.Mathlib.Omega.{arith}
+use lib.ListN.{length, getD, replicate, getD-replicate}
+use borrow.Author.Tests.{lt-ltb, le-ltb}
+use Rattle.image.specs.Limits.{maxCells, instructionBytes}
+use Rattle.image.specs.Instruction.{byteOf, instructionsOf}
+use Rattle.slot.specs.States.{waiting}
+use Rattle.slot.specs.Layout.{listWords, slotWords}
+use Rattle.slot.specs.Log.{Log, empty, placeIn, layout, logOf, Fits, Holds, Marked}
+use Rattle.slot.proofs.Logs.{Room}
+use Rattle.slot.proofs.Slots.{empty-fits, layout-length, layout-log, layout-read-count, layout-store-count, layout-waiting}
+use Rattle.machine.specs.declared.Machine.{Machine}
+use Rattle.machine.specs.declared.Turned.{Turned}
+use Rattle.machine.specs.declared.Turn.the-variants.{Next, Stop}
+use Rattle.machine.specs.declared.Run.{Run}
+use Rattle.machine.specs.declared.Run.the-variants.{Finished}
+use Rattle.machine.specs.Asks.{Ask, move, start, askOf, askAt}
+use Rattle.machine.specs.Runs.{Step, stop, next, perform, Outcome, ended, since, seen, follow, runFrom, runOf, Runnable, Ready, Did, logAfter, turned}
+use Rattle.machine.proofs.Named.{first-byte}
+use Rattle.machine.proofs.Asked.{ask-forward}
+use Rattle.machine.proofs.Laws.{by-ask, turn-fits}
+use Rattle.machine.proofs.Turns.{did-as}
+
+-- ---- a turn's answer tells the step
+
+answer-stop : (m : Machine) (s : Step) (x : Run) → turned m s .turn ≡ Stop x → s ≡ stop x (logAfter s)
+answer-stop m (stop r l) x e = let q : r ≡ x = cc in ap (λ (y : Run). stop y l) q
+answer-stop m (next m′ l) x e = let z : _≡_ {A = ℕ} 0 1 = cc in absurd (omega arith)
+
+answer-next : (m : Machine) (s : Step) → turned m s .turn ≡ Next → s ≡ next (turned m s .machine) (logAfter s)
+answer-next m (stop r l) e = let z : _≡_ {A = ℕ} 0 1 = cc in absurd (omega arith)
+answer-next m (next m′ l) e = refl
+
+-- a turn that goes on goes forward
+turn-forward : (p t : List ℕ) (m : Machine) (l : Log) (m′ : Machine) (l′ : Log) → perform t m l (askAt p m) ≡ next m′ l′ → m .place < m′ .place
+turn-forward p t m l m′ l′ =
+    by-ask t m l (λ s. s ≡ next m′ l′ → m .place < m′ .place) (askAt p m) (λ r e. let z : _≡_ {A = ℕ} 0 1 = cc in absurd (omega arith))
+    (λ n q e. let r : n ≡ m′ = cc in rw (← r) (moved n q)) (λ a c h e. onward _ _ e) (λ c v q h e. onward _ _ e)
+  where
+    moved : (n : Machine) → askAt p m ≡ move n → m .place < n .place
+    moved n q = rw q at (ask-forward p m)
+
+    onward : (rs : List ℕ) (l : Log) → next (record { registers = rs; place = m .place + 1 }) l ≡ next m′ l′ → m .place < m′ .place
+    onward rs l e = let r : record { registers = rs; place = m .place + 1 } ≡ m′ = cc in rw (← r) (omega arith)
+
+-- what the instruction asks, as the code reads its bytes
+abbrev pub askRead : List ℕ → Machine → Ask
+askRead p m = askOf (getD p (instructionBytes * m .place) 0) (byteOf p (m .place) 1) (byteOf p (m .place) 2) (byteOf p (m .place) 3) m
+
+ask-read : (p : List ℕ) (m : Machine) → askAt p m ≡ askRead p m
+unfolding askAt
+ask-read p m = rw (first-byte p (m .place))
+
+-- ---- the invariant
+
+pub record Going (p t : List ℕ) (m : Machine) (slot marks : List ℕ) : Type 0 where
+  -- so many turns can be left, and so many are behind
+  pub fuel : ℕ
+  pub used : ℕ
+  pub log : Log
+  pub is : slot ≡ layout waiting 0 log
+  pub enough : instructionsOf p ≤ fuel + m .place
+  pub budget : used + fuel ≤ listWords
+  pub room : Room used log
+  pub fitting : Fits (length t) log
+  pub marked : Marked marks (log .cells)
+  pub same-answer : runOf p t .answer ≡ runFrom fuel p t m log .answer
+  pub same-log : runOf p t .log ≡ runFrom fuel p t m log .log
+
+pub going-start : (p t : List ℕ) → Runnable p → (m : Machine) (slot marks : List ℕ) → m ≡ start → slot ≡ replicate slotWords 0
+    → marks ≡ replicate maxCells 0 → Going p t m slot marks
+unfolding runOf placeIn
+going-start p t runs m slot marks at e f =
+    record {
+      fuel = instructionsOf p;
+      used = 0;
+      log = empty;
+      is = e ∙ sym layout-waiting;
+      enough = omega arith;
+      budget = omega (arith, runs .short);
+      room = omega arith;
+      fitting = empty-fits (length t);
+      marked = record {
+        marks-length = ap length f;
+        mark = λ c h. ap (λ (x : List ℕ). getD x c 0) f ∙ getD-replicate maxCells c 0 0 h;
+      };
+      same-answer = rw at;
+      same-log = rw at;
+    }
+
+module _ {p t : List ℕ} {m : Machine} {slot marks : List ℕ} (runs : Runnable p) (g : Going p t m slot marks) where
+  log-is : logOf slot ≡ g .log
+  log-is = ap logOf (g .is) ∙ layout-log waiting 0 (g .log) (length t) (g .fitting)
+
+  pub going-words : length slot ≡ slotWords
+  going-words = ap length (g .is) ∙ layout-length waiting 0 (g .log) (length t) (g .fitting)
+
+  going-holds : m .place < instructionsOf p → Holds slot
+  going-holds h =
+      record {
+        sized = going-words;
+        read-room =
+            rw (g .is, layout-read-count waiting 0 (g .log)) (omega (arith, g .room .reads-room, g .budget, g .enough));
+        store-room =
+            rw (g .is, layout-store-count waiting 0 (g .log)) (omega (arith, g .room .cells-room, g .budget, g .enough));
+        paired = rw log-is (g .fitting .paired);
+        is = g .is ∙ ap (layout waiting 0) (sym log-is);
+      }
+
+  pub going-ready : length t ≤ maxCells → m .place < instructionsOf p → Ready t m slot marks
+  going-ready h u =
+      record { cells = h; within = omega (arith, runs .short); holds = going-holds u; marked = rw log-is (g .marked) }
+
+  -- past the last instruction the run has finished
+  end-from : (n : ℕ) (l : Log) → instructionsOf p ≤ m .place → runFrom n p t m l ≡ ended l
+  unfolding runFrom
+  end-from zero l h = refl
+  end-from (suc n) l h = rw (le-ltb (m .place) (instructionsOf p) h)
+
+  pub going-end : instructionsOf p ≤ m .place → (Finished ≡ runOf p t .answer) × (slot ≡ layout waiting 0 (runOf p t .log))
+  going-end h =
+      let e = end-from (g .fuel) (g .log) h in (
+        sym (g .same-answer ∙ ap (λ (o : Outcome). o .answer) e),
+        g .is ∙ ap (layout waiting 0) (sym (g .same-log ∙ ap (λ (o : Outcome). o .log) e)),
+      )
+
+  -- one turn of the definition
+  turn-from : (n : ℕ) (l : Log) → m .place < instructionsOf p
+      → runFrom (suc n) p t m l ≡ since (m .place) (seen t l (askAt p m)) (follow (runFrom n p t) (perform t m l (askAt p m)))
+  unfolding runFrom
+  turn-from n l h = rw (lt-ltb (m .place) (instructionsOf p) h)
+
+  -- what is left after the turn: n turns, from the step that was taken
+  record Left (n : ℕ) (s : Step) : Type 0 where
+    pub one-less : g .fuel ≡ suc n
+    pub left-answer : runOf p t .answer ≡ follow (runFrom n p t) s .answer
+    pub left-log : runOf p t .log ≡ follow (runFrom n p t) s .log
+
+  turn-left : m .place < instructionsOf p → (n : ℕ) × Left n (perform t m (g .log) (askAt p m))
+  turn-left h = go (g .fuel) refl
+    where
+      go : (k : ℕ) → g .fuel ≡ k → (n : ℕ) × Left n (perform t m (g .log) (askAt p m))
+      go zero e = absurd (omega (arith, g .enough))
+      go (suc n) e =
+          let q = ap (λ (k : ℕ). runFrom k p t m (g .log)) e ∙ turn-from n (g .log) h in (
+            n,
+            record {
+              one-less = e;
+              left-answer = g .same-answer ∙ ap (λ (o : Outcome). o .answer) q;
+              left-log = g .same-log ∙ ap (λ (o : Outcome). o .log) q;
+            },
+          )
+
+  module _ (r : Turned) (slot′ marks′ : List ℕ) (u : m .place < instructionsOf p) (d : Did t m (logOf slot) (askRead p m) r slot′ marks′) where
+    did-is : Did t m (g .log) (askAt p m) r slot′ marks′
+    did-is = rw log-is at (did-as (ask-read p m) d)
+
+    abbrev taken : Step
+    taken = perform t m (g .log) (askAt p m)
+
+    pub going-stop : (x : Run) → r .turn ≡ Stop x → (x ≡ runOf p t .answer) × (slot′ ≡ layout waiting 0 (runOf p t .log))
+    unfolding follow
+    going-stop x e =
+        let q : taken ≡ stop x (logAfter taken) = answer-stop m taken x (sym (ap (λ (y : Turned). y .turn) (did-is .answered)) ∙ e) in
+        let w = turn-left u .1 in (
+          sym (w .left-answer ∙ ap (λ (s : Step). follow (runFrom (turn-left u .0) p t) s .answer) q),
+          did-is .logged ∙ ap (layout waiting 0) (sym (w .left-log ∙ ap (λ (s : Step). follow (runFrom (turn-left u .0) p t) s .log) q)),
+        )
+
+    step-next : r .turn ≡ Next → taken ≡ next (r .machine) (logAfter taken)
+    step-next e =
+        answer-next m taken (sym (ap (λ (y : Turned). y .turn) (did-is .answered)) ∙ e)
+        ∙ ap (λ (y : Turned). next (y .machine) (logAfter taken)) (sym (did-is .answered))
+
+    pub going-forward : r .turn ≡ Next → m .place < r .machine .place
+    going-forward e = turn-forward p t m (g .log) (r .machine) (logAfter taken) (step-next e)
+
+    pub going-next : r .turn ≡ Next → Going p t (r .machine) slot′ marks′
+    unfolding follow
+    going-next e =
+        let n : ℕ = turn-left u .0 in
+        let w = turn-left u .1 in
+        let f = turn-fits t (g .used) m (g .log) (askAt p m) (omega (arith, g .budget, w .one-less)) (g .fitting) (g .room) in
+        record {
+          fuel = n;
+          used = g .used + 1;
+          log = logAfter taken;
+          is = did-is .logged;
+          enough = omega (arith, g .enough, w .one-less, going-forward e);
+          budget = omega (arith, g .budget, w .one-less);
+          room = f .1;
+          fitting = f .0;
+          marked = did-is .marked;
+          same-answer = w .left-answer ∙ ap (λ (s : Step). follow (runFrom n p t) s .answer) (step-next e);
+          same-log = w .left-log ∙ ap (λ (s : Step). follow (runFrom n p t) s .log) (step-next e);
+        }

@@ -1,0 +1,126 @@
+-- The cell's number is within the table or not, and the cell's place tells whether the run has stored it: three cases, each with its law. Assumes nothing.
+use Prim.Native.Nat.{_+_, _-_}
+use mathlib.Core.Path.{sym, _∙_}
+use lib.ListN.{getD}
+use borrow.Author.Needs.{needs}
+use Rattle.slot.specs.Layout.{firstValue}
+use Rattle.slot.specs.Log.{logOf, withRead}
+use Rattle.machine.specs.Asks.{written}
+use Rattle.machine.proofs.Turns.{load-fresh, load-own, load-fault, did-next, did-stop}
+use Rattle.machine.proofs.Machine.load.Statement.{statement}
+use Rattle.machine.proofs.Machine.load.Tie as tie
+
+abbrev start-of : tie.After-register → tie.Start
+start-of q = q .before .before .before
+
+register-requires : tie.Need-register-requires
+register-requires c κs = search needs
+
+cast-i : tie.Need-cast-i
+cast-i c = search needs
+
+stored-place-requires : tie.Need-stored-place-requires
+stored-place-requires c κs = search needs
+
+note-read-requires : tie.Need-note-read-requires
+note-read-requires c κs = search needs
+
+mul-written : tie.Need-mul-written
+mul-written c = search needs
+
+shared-slice-read-written : tie.Need-shared-slice-read-written
+shared-slice-read-written c = search needs
+
+written-requires : tie.Need-written-requires
+written-requires c κs = search needs
+
+goes-requires : tie.Need-goes-requires
+goes-requires c κs = search needs
+
+same-length : tie.Need-same-length
+same-length c = search needs
+
+returns : tie.Need-returns
+unfolding withRead
+returns c =
+    let d = c .before .before .before .before .before in
+    let p = d .before .before .before in
+    let q = p .before .before .before in
+    let s = start-of q in
+    let a = s .args in
+    let l = logOf (a .slot .now) in
+    let r = q .register .result in
+    did-next (c .before .written .result) (written (a .self) (a .a) (getD (a .table .now) r 0)) (withRead l r)
+    (load-fresh (a .table .now) (a .self) l r _ (q .register .ensures) (a .a) (p .before .before .if1 .taken)
+    (sym (p .stored-place .ensures .0) ∙ d .before .before .if2 .taken))
+    (c .goes .ensures) (c .before .written .ensures) (d .note-read .ensures) (s .pre .0 .marked)
+
+add-written : tie.Need-add-written
+add-written c = search needs
+
+sub-written : tie.Need-sub-written
+sub-written c = search needs
+
+mul-written-2 : tie.Need-mul-written-2
+mul-written-2 c = search needs
+
+slice-read-written : tie.Need-slice-read-written
+slice-read-written c = search needs
+
+written-requires-2 : tie.Need-written-requires-2
+written-requires-2 c κs = search needs
+
+goes-requires-2 : tie.Need-goes-requires-2
+goes-requires-2 c κs = search needs
+
+same-length-2 : tie.Need-same-length-2
+same-length-2 c = search needs
+
+returns-2 : tie.Need-returns-2
+returns-2 c =
+    let p = c .before .before .before .before in
+    let q = p .before .before .before in
+    let s = start-of q in
+    let a = s .args in
+    let l = logOf (a .slot .now) in
+    let k = p .stored-place .result in
+    did-next (c .before .written2 .result) (written (a .self) (a .a) (getD (a .slot .now) (firstValue + k - 1) 0)) l
+    (load-own (a .table .now) (a .self) (a .slot .now) (s .pre .0 .holds) (q .register .result) _ (q .register .ensures) (a .a)
+    (p .before .before .if1 .taken) k (p .stored-place .ensures .0) (c .before .before .before .if2 .left))
+    (c .goes2 .ensures) (c .before .written2 .ensures) (s .pre .0 .holds .is) (s .pre .0 .marked)
+
+faults-requires : tie.Need-faults-requires
+faults-requires c κs = search needs
+
+returns-3 : tie.Need-returns-3
+returns-3 c =
+    let q = c .before .before in
+    let s = start-of q in
+    let a = s .args in
+    did-stop _ (load-fault (a .table .now) (a .self) (logOf (a .slot .now)) (q .register .result) _ (q .register .ensures) (a .a) (c .before .if1 .left))
+    (c .faults .ensures) (s .pre .0 .holds .is) (s .pre .0 .marked)
+
+pub load-spec : {M : Type 1} → statement M
+load-spec =
+    tie.close
+    (tie.spec
+    register-requires
+    cast-i
+    stored-place-requires
+    note-read-requires
+    mul-written
+    shared-slice-read-written
+    written-requires
+    goes-requires
+    same-length
+    returns
+    add-written
+    sub-written
+    mul-written-2
+    slice-read-written
+    written-requires-2
+    goes-requires-2
+    same-length-2
+    returns-2
+    faults-requires
+    returns-3)

@@ -1,0 +1,70 @@
+-- The cell's number is within the table or not: two cases, each with its law. Assumes nothing.
+use borrow.Author.Needs.{needs}
+use Rattle.slot.specs.Log.{logOf, withStore}
+use Rattle.machine.specs.Asks.{passed}
+use Rattle.machine.proofs.Turns.{store-within, store-fault, did-next, did-stop}
+use Rattle.machine.proofs.Machine.store.Statement.{statement}
+use Rattle.machine.proofs.Machine.store.Tie as tie
+
+abbrev start-of : tie.After-register → tie.Start
+start-of q = q .before .before .before
+
+register-requires : tie.Need-register-requires
+register-requires c κs = search needs
+
+cast-i : tie.Need-cast-i
+cast-i c = search needs
+
+register-requires-2 : tie.Need-register-requires-2
+register-requires-2 c κs = search needs
+
+note-store-requires : tie.Need-note-store-requires
+note-store-requires c κs = search needs
+
+passed-requires : tie.Need-passed-requires
+passed-requires c κs = search needs
+
+goes-requires : tie.Need-goes-requires
+goes-requires c κs = search needs
+
+same-length : tie.Need-same-length
+same-length c = search needs
+
+returns : tie.Need-returns
+returns c =
+    let d = c .before .before .before .before in
+    let q = d .before .before .before .before .before in
+    let s = start-of q in
+    let a = s .args in
+    let l = logOf (a .slot .now) in
+    let r = q .register .result in
+    let w = d .before .register2 .result in
+    did-next (c .before .passed .result) (passed (a .self)) (withStore l r w)
+    (store-within (a .table .now) (a .self) l r _ (q .register .ensures) _ w (d .before .register2 .ensures) (d .before .before .before .before .if1 .taken))
+    (c .goes .ensures) (c .before .passed .ensures) (d .note-store .ensures .0) (d .note-store .ensures .1)
+
+faults-requires : tie.Need-faults-requires
+faults-requires c κs = search needs
+
+returns-2 : tie.Need-returns-2
+returns-2 c =
+    let q = c .before .before in
+    let s = start-of q in
+    let a = s .args in
+    did-stop _ (store-fault (a .table .now) (a .self) (logOf (a .slot .now)) (q .register .result) _ (q .register .ensures) _ (c .before .if1 .left))
+    (c .faults .ensures) (s .pre .0 .holds .is) (s .pre .0 .marked)
+
+pub store-spec : {M : Type 1} → statement M
+store-spec =
+    tie.close
+    (tie.spec
+    register-requires
+    cast-i
+    register-requires-2
+    note-store-requires
+    passed-requires
+    goes-requires
+    same-length
+    returns
+    faults-requires
+    returns-2)

@@ -1,0 +1,47 @@
+-- The slot is cleared, the turns leave the run's log in it, and the end lays it out. Assumes nothing.
+use Prim.Native.Nat.{ℕ}
+use mathlib.Core.Path.{refl, sym, ap, _∙_}
+use lib.ListN.{replicate}
+use borrow.Author.Needs.{needs}
+use Rattle.slot.specs.Log.{layout}
+use Rattle.slot.specs.States.{waiting}
+use Rattle.machine.proofs.Ends.{outcome-log, outcome-words, end-is}
+use Rattle.machine.proofs.run_program.Statement.{statement}
+use Rattle.machine.proofs.run_program.Tie as tie
+
+abbrev start-of : tie.After-clear → tie.Start
+start-of d = d .before .before .before .before .before
+
+clear-requires : tie.Need-clear-requires
+clear-requires c κs = search needs
+
+take-turns-requires : tie.Need-take-turns-requires
+take-turns-requires c κs =
+    let d = c .before .before .before .before in
+    let s = start-of d in
+    (s .pre .0, s .pre .1, d .clear .ensures ∙ ap (λ (k : ℕ). replicate k 0) (s .pre .2), refl)
+
+finish-requires : tie.Need-finish-requires
+finish-requires c κs =
+    let d = c .before .before .before in
+    let s = start-of (d .before .before .before .before .before) in
+    let e = d .take-turns .ensures .1 in
+    (outcome-words _ (s .args .table .now) (s .pre .0) e, e ∙ ap (layout waiting 0) (sym (outcome-log _ (s .args .table .now) (s .pre .0) e)))
+
+same-length : tie.Need-same-length
+same-length c = search needs
+
+returns : tie.Need-returns
+returns c =
+    let f = c .before .before in
+    let d = f .before .before .before .before in
+    let s = start-of (d .before .before .before .before .before) in
+    let w = d .take-turns in
+    record {
+      answer = w .ensures .0;
+      left = f .finish .ensures ∙ end-is _ (w .ensures .0) (outcome-log _ (s .args .table .now) (s .pre .0) (w .ensures .1));
+    }
+
+pub run-program-spec : {M : Type 1} → statement M
+run-program-spec =
+    tie.close (tie.spec clear-requires take-turns-requires finish-requires same-length returns)

@@ -1,0 +1,8 @@
+-- One name that opens every definition of a run, for worked cases. Assumes nothing.
+use Rattle.slot.specs.Opened as slot
+use Rattle.machine.specs.Asks.{askOf, askAt}
+use Rattle.machine.specs.Runs.{perform, seen, follow, runFrom, runOf, slotOf}
+
+unfoldable pub opened : Unit {0}
+unfolding slot.opened askOf askAt perform seen follow runFrom runOf slotOf
+opened = tt

@@ -1,0 +1,292 @@
+// The machine: eight registers and the place, the nine instructions, and the run of one program (document 01, "Instructions").
+ghost use mathlib.Core.Path.{_≡_};
+ghost use Prim.Native.Nat.{_+_, _*_, _<_, _≤_};
+ghost use lib.Dec.{ltb, eqb};
+ghost use lib.ListN.{length, replicate};
+ghost use Rattle.image.specs.Limits.{registers, maxCells, maxInstructions};
+ghost use Rattle.slot.specs.States.{waiting};
+ghost use Rattle.slot.specs.Layout.{slotWords};
+ghost use Rattle.slot.specs.Log.{empty, layout, logOf};
+ghost use Rattle.machine.specs.Asks.{start, reg, written, passed, skipped, added, subtracted, fetch, put, askOf};
+ghost use Rattle.machine.specs.Runs.{stop, next, runOf, stateOfRun, detailOfRun, kept, turned, Named, Ready, Did, Runnable, RunSays};
+
+// The eight registers and the place: the number of the instruction that is next.
+pub struct Machine {
+    pub registers: [u32; image::Image::REGISTERS],
+    pub place: usize,
+}
+
+// How a run ended.
+pub enum Run {
+    Finished,
+    Rejected(u8),
+    Faulted { kind: u8, at: u8 },
+}
+
+// The kinds of a fault: a load, or a store, of a cell outside the table.
+const LOAD_FAULT: u8 = 1;
+
+const STORE_FAULT: u8 = 2;
+
+// What a turn gives: the run goes on with the machine, or stops.
+pub enum Turn {
+    Next,
+    Stop(Run),
+}
+
+pub struct Turned {
+    pub turn: Turn,
+    pub machine: Machine,
+}
+
+// Every instruction takes the eight registers and the place, and gives both back.
+impl Machine {
+    // Eight registers, all 0, at the first instruction.
+    fn new() -> Machine
+        ensures { λ r. ⌜ r ≡ start ⌝ }
+    {
+        Machine {
+            registers: [0u32; image::Image::REGISTERS],
+            place: 0,
+        }
+    }
+
+    fn register(self, a: u8) -> u32
+        requires { ⌜ a < registers ⌝ }
+        ensures { λ r. ⌜ r ≡ reg self a ⌝ }
+    {
+        let i = a as usize;
+        self.registers[i]
+    }
+
+    // On to the next instruction, with v in register a.
+    fn written(self, a: u8, v: u32) -> Machine
+        requires { ⌜ (a < registers) × (self .place < maxInstructions) ⌝ }
+        ensures { λ r. ⌜ r ≡ written self a v ⌝ }
+    {
+        let i = a as usize;
+        let mut next = self;
+        next.registers[i] = v;
+        next.place = next.place + 1;
+        next
+    }
+
+    // On to the next instruction.
+    fn passed(self) -> Machine
+        requires { ⌜ self .place < maxInstructions ⌝ }
+        ensures { λ r. ⌜ r ≡ passed self ⌝ }
+    {
+        let mut next = self;
+        next.place = next.place + 1;
+        next
+    }
+
+    // If the test holds, past the next c instructions.
+    fn skipped(self, test: bool, c: u8) -> Machine
+        requires { ⌜ self .place < maxInstructions ⌝ }
+        ensures { λ r. ⌜ r ≡ skipped test self c ⌝ }
+    {
+        let mut next = self.passed();
+        if test {
+            next.place = next.place + c as usize;
+        }
+        next
+    }
+
+    fn set(self, a: u8, b: u8, c: u8) -> Machine
+        requires { ⌜ (a < registers) × (self .place < maxInstructions) ⌝ }
+        ensures { λ r. ⌜ r ≡ written self a (256 * b + c) ⌝ }
+    {
+        self.written(a, 256 * (b as u32) + (c as u32))
+    }
+
+    fn add(self, a: u8, b: u8, c: u8) -> Machine
+        requires { ⌜ (a < registers) × (b < registers) × (c < registers) × (self .place < maxInstructions) ⌝ }
+        ensures { λ r. ⌜ r ≡ written self a (added (reg self b) (reg self c)) ⌝ }
+    {
+        self.written(
+            a,
+            std::num::wrapping_add_u32(self.register(b), self.register(c)),
+        )
+    }
+
+    fn sub(self, a: u8, b: u8, c: u8) -> Machine
+        requires { ⌜ (a < registers) × (b < registers) × (c < registers) × (self .place < maxInstructions) ⌝ }
+        ensures { λ r. ⌜ r ≡ written self a (subtracted (reg self b) (reg self c)) ⌝ }
+    {
+        self.written(
+            a,
+            std::num::wrapping_sub_u32(self.register(b), self.register(c)),
+        )
+    }
+
+    fn skip_less(self, a: u8, b: u8, c: u8) -> Machine
+        requires { ⌜ (a < registers) × (b < registers) × (self .place < maxInstructions) ⌝ }
+        ensures { λ r. ⌜ r ≡ skipped (ltb (reg self a) (reg self b)) self c ⌝ }
+    {
+        self.skipped(self.register(a) < self.register(b), c)
+    }
+
+    fn skip_equal(self, a: u8, b: u8, c: u8) -> Machine
+        requires { ⌜ (a < registers) × (b < registers) × (self .place < maxInstructions) ⌝ }
+        ensures { λ r. ⌜ r ≡ skipped (eqb (reg self a) (reg self b)) self c ⌝ }
+    {
+        self.skipped(self.register(a) == self.register(b), c)
+    }
+
+    // The run goes on.
+    fn goes(self) -> Turned
+        ensures { λ r. ⌜ r ≡ turned self (next self empty) ⌝ }
+    {
+        Turned {
+            turn: Turn::Next,
+            machine: self,
+        }
+    }
+
+    // The run stops.
+    fn stops(self, run: Run) -> Turned
+        ensures { λ r. ⌜ r ≡ turned self (stop run empty) ⌝ }
+    {
+        Turned {
+            turn: Turn::Stop(run),
+            machine: self,
+        }
+    }
+
+    // The run stops with a fault at this place.
+    fn faults(self, kind: u8) -> Turned
+        requires { ⌜ self .place < maxInstructions ⌝ }
+        ensures { λ r. ⌜ r ≡ turned self (stop (Run.Faulted kind (self .place)) empty) ⌝ }
+    {
+        let at = self.place as u8;
+        self.stops(Run::Faulted { kind, at })
+    }
+
+    // Register a gets cell number r[b]: the value that the run has stored there, or the table's, which is then a read.
+    fn load(self, a: u8, b: u8, table: &[u32], slot: &mut [u32], marks: &slot::Marks) -> Turned
+        requires { ⌜ Ready (now table) self (now slot) (now marks) × (a < registers) × (b < registers) ⌝ }
+        ensures { λ r. ⌜ Did (now (table .entry)) self (logOf (now (slot .entry))) (fetch a (reg self b)) r (now (slot .exit)) (now (marks .entry)) ⌝ }
+    {
+        let c = self.register(b);
+        let i = c as usize;
+        if i < table.len() {
+            let k = slot::stored_place(slot, marks, c);
+            if k == 0 {
+                slot::note_read(slot, c);
+                return self.written(a, table[i]).goes();
+            }
+            return self.written(a, slot[slot::VALUES + k - 1]).goes();
+        }
+        self.faults(LOAD_FAULT)
+    }
+
+    // Cell number r[a] gets r[b].
+    fn store(self, a: u8, b: u8, table: &[u32], slot: &mut [u32], marks: &mut slot::Marks) -> Turned
+        requires { ⌜ Ready (now table) self (now slot) (now marks) × (a < registers) × (b < registers) ⌝ }
+        ensures { λ r. ⌜ Did (now (table .entry)) self (logOf (now (slot .entry))) (put (reg self a) (reg self b)) r (now (slot .exit)) (now (marks .exit)) ⌝ }
+    {
+        let c = self.register(a);
+        let i = c as usize;
+        if i < table.len() {
+            slot::note_store(slot, marks, c, self.register(b));
+            return self.passed().goes();
+        }
+        self.faults(STORE_FAULT)
+    }
+
+    // One turn: the instruction op, a, b, c.
+    fn step(
+        self,
+        op: u8,
+        a: u8,
+        b: u8,
+        c: u8,
+        table: &[u32],
+        slot: &mut [u32],
+        marks: &mut slot::Marks,
+    ) -> Turned
+        requires { ⌜ Ready (now table) self (now slot) (now marks) × Named op a b c ⌝ }
+        ensures { λ r. ⌜ Did (now (table .entry)) self (logOf (now (slot .entry))) (askOf op a b c self) r (now (slot .exit)) (now (marks .exit)) ⌝ }
+    {
+        match op {
+            0 => self.stops(Run::Finished),
+            1 => self.set(a, b, c).goes(),
+            2 => self.load(a, b, table, slot, marks),
+            3 => self.store(a, b, table, slot, marks),
+            4 => self.add(a, b, c).goes(),
+            5 => self.sub(a, b, c).goes(),
+            6 => self.skip_less(a, b, c).goes(),
+            7 => self.skip_equal(a, b, c).goes(),
+            8 => self.stops(Run::Rejected(a)),
+            9..=255 => self.stops(Run::Finished),
+        }
+    }
+}
+
+// The turns of a run, from an empty log. Every turn goes forward; arriving at m is an end.
+fn take_turns(program: &[u8], table: &[u32], slot: &mut [u32], marks: &mut slot::Marks) -> Run
+    requires { ⌜ Runnable (now program) × (length (now table) ≤ maxCells) × (now slot ≡ replicate slotWords 0) × (now marks ≡ replicate maxCells 0) ⌝ }
+    ensures { λ r. ⌜ r ≡ runOf (now (program .entry)) (now (table .entry)) .answer ⌝ }
+    ensures { λ _. ⌜ now (slot .exit) ≡ layout waiting 0 (runOf (now (program .entry)) (now (table .entry)) .log) ⌝ }
+{
+    let count = program.len() / image::Image::INSTRUCTION_BYTES;
+    let mut machine = Machine::new();
+    while machine.place < count {
+        let at = image::Image::INSTRUCTION_BYTES * machine.place;
+        let turned = machine.step(
+            program[at],
+            program[at + 1],
+            program[at + 2],
+            program[at + 3],
+            table,
+            slot,
+            marks,
+        );
+        let turn = turned.turn;
+        let after = turned.machine;
+        match turn {
+            Turn::Stop(run) => {
+                return run;
+            }
+            Turn::Next => {
+                machine = after;
+            }
+        }
+    }
+    Run::Finished
+}
+
+// The slot of a run that has ended: a rejected or faulted one has only state and detail.
+fn finish(slot: &mut [u32], run: Run)
+    requires { ⌜ (length (now slot) ≡ slotWords) × (now slot ≡ layout waiting 0 (logOf (now slot))) ⌝ }
+    ensures { λ _. ⌜ now (slot .exit) ≡ layout (stateOfRun run) (detailOfRun run) (kept run (logOf (now (slot .entry)))) ⌝ }
+{
+    match run {
+        Run::Finished => {
+            slot[slot::STATE] = slot::GATHERED;
+        }
+        Run::Rejected(code) => {
+            slot::clear(slot);
+            slot[slot::STATE] = slot::REJECTED;
+            slot[slot::DETAIL] = code as u32;
+        }
+        Run::Faulted { kind, at } => {
+            slot::clear(slot);
+            slot[slot::STATE] = slot::FAULTED;
+            slot[slot::DETAIL] = 256 * (kind as u32) + (at as u32);
+        }
+    }
+}
+
+// The run of a program on a table: its answer, and its whole slot.
+pub fn run_program(program: &[u8], table: &[u32], slot: &mut [u32]) -> Run
+    requires { ⌜ Runnable (now program) × (length (now table) ≤ maxCells) × (length (now slot) ≡ slotWords) ⌝ }
+    ensures { λ r. ⌜ RunSays (now (program .entry)) (now (table .entry)) r (now (slot .exit)) ⌝ }
+{
+    slot::clear(slot);
+    let mut marks: slot::Marks = [0u8; image::Image::CELLS];
+    let run = take_turns(program, table, slot, &mut marks);
+    finish(slot, run);
+    run
+}

@@ -1,0 +1,5 @@
+pub mod Places
+pub mod Logs
+pub mod Slots
+pub mod Noted
+pub mod Unique

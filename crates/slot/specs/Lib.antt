@@ -1,0 +1,4 @@
+pub mod States
+pub mod Layout
+pub mod Log
+pub mod Opened

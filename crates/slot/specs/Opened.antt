@@ -1,0 +1,7 @@
+-- One name that opens every definition of the slot, for worked cases. Assumes nothing.
+use Rattle.base.specs.Words.{words}
+use Rattle.slot.specs.Log.{placeIn, once, loaded, withRead, withStore, layout, logOf}
+
+unfoldable pub opened : Unit {0}
+unfolding words placeIn once loaded withRead withStore layout logOf
+opened = tt

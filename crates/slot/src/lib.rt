@@ -1,0 +1,121 @@
+// A program's slot in the work area: where its words lie, its states, and how a run writes its log into it (document 01, "The work area").
+ghost use mathlib.Core.Path.{_≡_};
+ghost use Prim.Native.Nat.{_+_, _<_, _≤_};
+ghost use lib.ListN.{length, replicate};
+ghost use Rattle.base.specs.Words.{words};
+ghost use Rattle.image.specs.Limits.{maxCells};
+ghost use Rattle.slot.specs.States.{waiting, isEnd};
+ghost use Rattle.slot.specs.Layout.{listWords};
+ghost use Rattle.slot.specs.Log.{placeIn, layout, logOf, withRead, withStore, Holds, Marked};
+
+// Where the words of a slot lie: named here and nowhere else.
+pub const STATE: usize = 0;
+
+pub const DETAIL: usize = 1;
+
+pub const READ_COUNT: usize = 2;
+
+pub const STORE_COUNT: usize = 3;
+
+// Each list has room for an entry per instruction.
+pub const LIST: usize = image::Image::INSTRUCTIONS;
+
+pub const READS: usize = 4;
+
+pub const STORES: usize = READS + LIST;
+
+pub const VALUES: usize = STORES + LIST;
+
+pub const WORDS: usize = VALUES + LIST;
+
+// The states.
+pub const WAITING: u32 = 0;
+
+pub const GATHERED: u32 = 1;
+
+pub const REJECTED: u32 = 2;
+
+pub const FAULTED: u32 = 3;
+
+pub const COMMITTED: u32 = 4;
+
+pub const CARRIED: u32 = 5;
+
+// Whether a state is one in which a program is done with in this batch.
+pub fn is_end(state: u32) -> bool
+    ensures { λ r. ⌜ r ≡ isEnd state ⌝ }
+{
+    if state == WAITING {
+        return false;
+    }
+    state != GATHERED
+}
+
+// Every word is 0.
+pub fn clear(words: &mut [u32])
+    ensures { λ _. ⌜ now (words .exit) ≡ replicate (length (now (words .entry))) 0 ⌝ }
+{
+    let mut i = 0;
+    while i < words.len() {
+        words[i] = 0;
+        i += 1;
+    }
+}
+
+// 0 where x is not among the n words from the word at on, else 1 + its first place there.
+fn place_in(slot: &[u32], at: usize, n: usize, x: u32) -> usize
+    requires { ⌜ at + n ≤ length (now slot) ⌝ }
+    ensures { λ r. ⌜ r ≡ placeIn x (words at n (now (slot .entry))) ⌝ }
+{
+    let mut i = 0;
+    while i < n {
+        if x == slot[at + i] {
+            return i + 1;
+        }
+        i += 1;
+    }
+    0
+}
+
+// How a run knows what it has stored: a mark for each cell, 0 or 1 + the cell's place among the stored ones. Only the next two functions look at it.
+pub type Marks = [u8; image::Image::CELLS];
+
+// 0 where the run has not stored cell c, else 1 + the cell's place among the stored ones.
+pub fn stored_place(slot: &[u32], marks: &Marks, c: u32) -> usize
+    requires { ⌜ Holds (now slot) × Marked (now marks) (logOf (now slot) .cells) × (c < maxCells) ⌝ }
+    ensures { λ r. ⌜ (r ≡ placeIn c (logOf (now (slot .entry)) .cells)) × (r ≤ listWords) ⌝ }
+{
+    let i = c as usize;
+    marks[i] as usize
+}
+
+// The run stores v to cell c: at its place among the stored cells, or as a new one.
+pub fn note_store(slot: &mut [u32], marks: &mut Marks, c: u32, v: u32)
+    requires { ⌜ Holds (now slot) × Marked (now marks) (logOf (now slot) .cells) × (c < maxCells) ⌝ }
+    ensures { λ _. ⌜ now (slot .exit) ≡ layout waiting 0 (withStore (logOf (now (slot .entry))) c v) ⌝ }
+    ensures { λ _. ⌜ Marked (now (marks .exit)) (withStore (logOf (now (slot .entry))) c v .cells) ⌝ }
+{
+    let k = stored_place(slot, marks, c);
+    if k == 0 {
+        let n = slot[STORE_COUNT] as usize;
+        slot[STORES + n] = c;
+        slot[VALUES + n] = v;
+        slot[STORE_COUNT] = (n + 1) as u32;
+        let i = c as usize;
+        marks[i] = (n + 1) as u8;
+    } else {
+        slot[VALUES + k - 1] = v;
+    }
+}
+
+// The run reads cell c, which it has not stored: the cell is among the reads, once.
+pub fn note_read(slot: &mut [u32], c: u32)
+    requires { ⌜ Holds (now slot) × (placeIn c (logOf (now slot) .cells) ≡ 0) ⌝ }
+    ensures { λ _. ⌜ now (slot .exit) ≡ layout waiting 0 (withRead (logOf (now (slot .entry))) c) ⌝ }
+{
+    let n = slot[READ_COUNT] as usize;
+    if place_in(slot, READS, n, c) == 0 {
+        slot[READS + n] = c;
+        slot[READ_COUNT] = (n + 1) as u32;
+    }
+}
