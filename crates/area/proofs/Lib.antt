@@ -1,0 +1,6 @@
+pub mod Views
+pub mod Changes
+pub mod Checks
+pub mod Keeps
+pub mod Loops
+pub mod Places

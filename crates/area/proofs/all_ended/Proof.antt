@@ -1,0 +1,63 @@
+-- The loop's invariant: each program passed is done with. The measure is how many are left. Assumes nothing.
+use mathlib.Core.Path.{_≡_, sym, ap, _∙_}
+use mathlib.Core.Bool.{true}
+use Prim.Native.Nat.{_-_, _≤_}
+use native.Mathlib.Omega.{arith}
+use borrow.Author.Needs.{needs}
+use borrow.Author.Tests.{not-true, not-false}
+use Rattle.base.specs.Words.{every}
+use Rattle.base.proofs.Numbers.{every-none, every-more, every-false}
+use Rattle.slot.specs.States.{isEnd}
+use Rattle.area.specs.Checks.{allEnded}
+use Rattle.area.specs.Layout.{stateOf}
+use Rattle.area.proofs.all_ended.Statement.{statement}
+use Rattle.area.proofs.all_ended.Tie as tie
+
+abbrev Inv-loop : tie.InvT-loop
+Inv-loop area cells n k₀ k = (k ≤ n) × (every k (λ q. isEnd (stateOf cells q area)) ≡ true)
+
+abbrev μ-loop : tie.MeasureT-loop
+μ-loop area cells n k₀ k = n - k
+
+loop-holds : tie.Need-loop-holds Inv-loop μ-loop
+loop-holds c = (search needs, every-none _)
+
+state-requires : tie.Need-state-requires Inv-loop μ-loop
+state-requires c κs = search needs
+
+is-end-requires : tie.Need-is-end-requires Inv-loop μ-loop
+is-end-requires c κs = search needs
+
+returns : tie.Need-returns Inv-loop μ-loop
+unfolding allEnded
+returns c =
+    let a = c .before .before .before .before .before .before .args in
+    sym (every-false (a .n) (λ q. isEnd (stateOf (a .cells) q (a .area .now))) (c .before .before .before .before .loop .k) (omega arith) (ap isEnd (sym (c .before .before .state .ensures)) ∙ (sym (c .before .is-end .ensures) ∙ not-true _ (c .if1 .taken))))
+
+add-k : tie.Need-add-k Inv-loop μ-loop
+add-k c = search needs
+
+loop-less : tie.Need-loop-less Inv-loop μ-loop
+loop-less c = search needs
+
+loop-again : tie.Need-loop-again Inv-loop μ-loop
+loop-again c = (search needs, every-more _ _ (c .before .before .before .before .loop .inv .1) (ap isEnd (sym (c .before .before .state .ensures)) ∙ (sym (c .before .is-end .ensures) ∙ not-false _ (c .if1 .left))))
+
+returns-2 : tie.Need-returns-2 Inv-loop μ-loop
+unfolding allEnded
+returns-2 c = let e : c .before .loop .k ≡ c .before .before .before .args .n = omega arith in sym (rw e at (c .before .loop .inv .1))
+
+pub all-ended-spec : {M : Type 1} → statement M
+all-ended-spec =
+    tie.close
+    (tie.spec
+    Inv-loop
+    μ-loop
+    loop-holds
+    state-requires
+    is-end-requires
+    returns
+    add-k
+    loop-less
+    loop-again
+    returns-2)

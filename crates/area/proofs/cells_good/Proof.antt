@@ -1,0 +1,71 @@
+-- The loop's invariant: each word passed is a cell of the table. The measure is how many are left. Assumes nothing.
+use mathlib.Core.Path.{_≡_, sym}
+use mathlib.Core.Bool.{true}
+use Prim.Native.Nat.{_+_, _-_, _≤_}
+use native.Mathlib.Omega.{arith}
+use lib.ListN.{getD}
+use lib.Dec.{ltb}
+use borrow.Author.Needs.{needs}
+use borrow.Author.Tests.{lt-ltb, le-ltb}
+use Rattle.base.specs.Words.{every}
+use Rattle.base.proofs.Numbers.{every-none, every-more, every-false}
+use Rattle.area.specs.Checks.{cellsGood}
+use Rattle.area.proofs.cells_good.Statement.{statement}
+use Rattle.area.proofs.cells_good.Tie as tie
+
+abbrev Inv-loop : tie.InvT-loop
+Inv-loop area cells at count i₀ i = (i ≤ count) × (every i (λ q. ltb (getD area (at + q) 0) cells) ≡ true)
+
+abbrev μ-loop : tie.MeasureT-loop
+μ-loop area cells at count i₀ i = count - i
+
+loop-holds : tie.Need-loop-holds Inv-loop μ-loop
+loop-holds c = (search needs, every-none _)
+
+add-if1 : tie.Need-add-if1 Inv-loop μ-loop
+add-if1 c = search needs
+
+mul-if1 : tie.Need-mul-if1 Inv-loop μ-loop
+mul-if1 c = search needs
+
+shared-slice-read-if1 : tie.Need-shared-slice-read-if1 Inv-loop μ-loop
+shared-slice-read-if1 c = search needs
+
+cast-if1 : tie.Need-cast-if1 Inv-loop μ-loop
+cast-if1 c = omega (arith, c .shared-slice-known .given (c .before .before .before .args .at + c .before .before .loop .i))
+
+returns : tie.Need-returns Inv-loop μ-loop
+unfolding cellsGood
+returns c =
+    let a = c .before .before .before .before .args in
+    sym (every-false (a .count) (λ q. ltb (getD (a .area .now) (a .at + q) 0) (a .cells)) (c .before .before .before .loop .i) (omega arith) (le-ltb _ _ (c .if1 .taken)))
+
+add-i : tie.Need-add-i Inv-loop μ-loop
+add-i c = search needs
+
+loop-less : tie.Need-loop-less Inv-loop μ-loop
+loop-less c = search needs
+
+loop-again : tie.Need-loop-again Inv-loop μ-loop
+loop-again c = (search needs, every-more _ _ (c .before .before .before .loop .inv .1) (lt-ltb _ _ (c .if1 .left)))
+
+returns-2 : tie.Need-returns-2 Inv-loop μ-loop
+unfolding cellsGood
+returns-2 c = let e : c .before .loop .i ≡ c .before .before .args .count = omega arith in sym (rw e at (c .before .loop .inv .1))
+
+pub cells-good-spec : {M : Type 1} → statement M
+cells-good-spec =
+    tie.close
+    (tie.spec
+    Inv-loop
+    μ-loop
+    loop-holds
+    add-if1
+    mul-if1
+    shared-slice-read-if1
+    cast-if1
+    returns
+    add-i
+    loop-less
+    loop-again
+    returns-2)

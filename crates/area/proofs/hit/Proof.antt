@@ -1,0 +1,89 @@
+-- The loop's invariant: there is a hit among the cells that are left exactly if there is one among all. The measure is how many are left. Assumes nothing.
+use mathlib.Core.Path.{_≡_, refl, sym, _∙_}
+use Prim.Native.Nat.{_+_, _-_, _≤_}
+use native.Mathlib.Omega.{arith}
+use lib.ListN.{drop}
+use borrow.Author.Needs.{needs}
+use Rattle.base.specs.Words.{words}
+use Rattle.area.specs.Marks.{hit}
+use Rattle.area.proofs.Loops.{hit-found, hit-next, hit-end}
+use Rattle.area.proofs.hit.Statement.{statement}
+use Rattle.area.proofs.hit.Tie as tie
+
+abbrev Inv-loop : tie.InvT-loop
+Inv-loop area marks at count number i₀ i = (i ≤ count) × (hit marks (drop i (words at count area)) number area ≡ hit marks (words at count area) number area)
+
+abbrev μ-loop : tie.MeasureT-loop
+μ-loop area marks at count number i₀ i = count - i
+
+loop-holds : tie.Need-loop-holds Inv-loop μ-loop
+loop-holds c = (omega arith, refl)
+
+add-c : tie.Need-add-c Inv-loop μ-loop
+add-c c = search needs
+
+mul-c : tie.Need-mul-c Inv-loop μ-loop
+mul-c c = search needs
+
+shared-slice-read-c : tie.Need-shared-slice-read-c Inv-loop μ-loop
+shared-slice-read-c c = search needs
+
+cast-c : tie.Need-cast-c Inv-loop μ-loop
+cast-c c = omega (arith, c .shared-slice-known2 .given (c .before .before .before .before .args .at + c .before .before .loop .i))
+
+add-earlier : tie.Need-add-earlier Inv-loop μ-loop
+add-earlier c = omega (arith, c .before .before .before .before .pre .before-at (c .before .before .loop .i) (c .before .loop-test .taken))
+
+mul-earlier : tie.Need-mul-earlier Inv-loop μ-loop
+mul-earlier c = omega (arith, c .before .before .before .before .pre .before-at (c .before .before .loop .i) (c .before .loop-test .taken))
+
+shared-slice-read-earlier : tie.Need-shared-slice-read-earlier Inv-loop μ-loop
+shared-slice-read-earlier c = omega (arith, c .before .before .before .before .before .pre .before-at (c .before .before .before .loop .i) (c .before .before .loop-test .taken))
+
+earlier-requires : tie.Need-earlier-requires Inv-loop μ-loop
+earlier-requires c κs = search needs
+
+returns : tie.Need-returns Inv-loop μ-loop
+returns c =
+    let a = c .before .before .before .before .before .before .before .args in
+    let l = c .before .before .before .before .before .loop in
+    sym (sym (l .inv .1) ∙ hit-found (a .marks) (a .at) (a .count) (a .number) (a .area .now) (c .before .before .before .before .before .before .before .pre) (l .i) (c .before .before .before .before .loop-test .taken) (sym (c .before .earlier .ensures) ∙ c .if1 .taken))
+
+add-i : tie.Need-add-i Inv-loop μ-loop
+add-i c = search needs
+
+loop-less : tie.Need-loop-less Inv-loop μ-loop
+loop-less c = search needs
+
+loop-again : tie.Need-loop-again Inv-loop μ-loop
+loop-again c =
+    let a = c .before .before .before .before .before .before .before .args in
+    let l = c .before .before .before .before .before .loop in
+    (omega arith, hit-next (a .marks) (a .at) (a .count) (a .number) (a .area .now) (c .before .before .before .before .before .before .before .pre) (l .i) (c .before .before .before .before .loop-test .taken) (sym (c .before .earlier .ensures) ∙ c .if1 .left) ∙ l .inv .1)
+
+returns-2 : tie.Need-returns-2 Inv-loop μ-loop
+returns-2 c =
+    let a = c .before .before .before .args in
+    let l = c .before .loop in
+    sym (sym (l .inv .1) ∙ hit-end (a .marks) (a .at) (a .count) (a .number) (a .area .now) (c .before .before .before .pre) (l .i) (l .inv .0) (c .loop-test .left))
+
+pub hit-spec : {M : Type 1} → statement M
+hit-spec =
+    tie.close
+    (tie.spec
+    Inv-loop
+    μ-loop
+    loop-holds
+    add-c
+    mul-c
+    shared-slice-read-c
+    cast-c
+    add-earlier
+    mul-earlier
+    shared-slice-read-earlier
+    earlier-requires
+    returns
+    add-i
+    loop-less
+    loop-again
+    returns-2)

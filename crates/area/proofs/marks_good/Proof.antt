@@ -1,0 +1,71 @@
+-- The loop's invariant: each mark passed is at most n. The measure is how many are left. Assumes nothing.
+use mathlib.Core.Path.{_≡_, sym}
+use mathlib.Core.Bool.{true}
+use Prim.Native.Nat.{_+_, _-_, _≤_}
+use native.Mathlib.Omega.{arith}
+use lib.ListN.{getD}
+use lib.Dec.{leb}
+use borrow.Author.Needs.{needs}
+use borrow.Author.Tests.{le-leb, lt-leb}
+use Rattle.base.specs.Words.{every}
+use Rattle.base.proofs.Numbers.{every-none, every-more, every-false}
+use Rattle.area.specs.Checks.{marksGood}
+use Rattle.area.proofs.marks_good.Statement.{statement}
+use Rattle.area.proofs.marks_good.Tie as tie
+
+abbrev Inv-loop : tie.InvT-loop
+Inv-loop area at cells n c₀ c = (c ≤ cells) × (every c (λ q. leb (getD area (at + q) 0) n) ≡ true)
+
+abbrev μ-loop : tie.MeasureT-loop
+μ-loop area at cells n c₀ c = cells - c
+
+loop-holds : tie.Need-loop-holds Inv-loop μ-loop
+loop-holds c = (search needs, every-none _)
+
+add-if1 : tie.Need-add-if1 Inv-loop μ-loop
+add-if1 c = search needs
+
+mul-if1 : tie.Need-mul-if1 Inv-loop μ-loop
+mul-if1 c = search needs
+
+shared-slice-read-if1 : tie.Need-shared-slice-read-if1 Inv-loop μ-loop
+shared-slice-read-if1 c = search needs
+
+cast-if1 : tie.Need-cast-if1 Inv-loop μ-loop
+cast-if1 c = omega (arith, c .shared-slice-known .given (c .before .before .before .args .at + c .before .before .loop .c))
+
+returns : tie.Need-returns Inv-loop μ-loop
+unfolding marksGood
+returns c =
+    let a = c .before .before .before .before .args in
+    sym (every-false (a .cells) (λ q. leb (getD (a .area .now) (a .at + q) 0) (a .n)) (c .before .before .before .loop .c) (omega arith) (lt-leb _ _ (c .if1 .taken)))
+
+add-c : tie.Need-add-c Inv-loop μ-loop
+add-c c = search needs
+
+loop-less : tie.Need-loop-less Inv-loop μ-loop
+loop-less c = search needs
+
+loop-again : tie.Need-loop-again Inv-loop μ-loop
+loop-again c = (search needs, every-more _ _ (c .before .before .before .loop .inv .1) (le-leb _ _ (c .if1 .left)))
+
+returns-2 : tie.Need-returns-2 Inv-loop μ-loop
+unfolding marksGood
+returns-2 c = let e : c .before .loop .c ≡ c .before .before .args .cells = omega arith in sym (rw e at (c .before .loop .inv .1))
+
+pub marks-good-spec : {M : Type 1} → statement M
+marks-good-spec =
+    tie.close
+    (tie.spec
+    Inv-loop
+    μ-loop
+    loop-holds
+    add-if1
+    mul-if1
+    shared-slice-read-if1
+    cast-if1
+    returns
+    add-c
+    loop-less
+    loop-again
+    returns-2)

@@ -1,0 +1,55 @@
+-- The count is read out of the slot, and `hit` looks through the list that it counts: the program's read cells. Assumes nothing.
+use Prim.Native.Nat.{_+_}
+use native.Mathlib.Omega.{arith}
+use borrow.Author.Needs.{needs}
+use Rattle.slot.specs.Layout.{readCount}
+use Rattle.area.specs.Marks.{hit, raw}
+use Rattle.area.proofs.Places.{by-reads, names-reads}
+use Rattle.area.proofs.raw.Statement.{statement}
+use Rattle.area.proofs.raw.Tie as tie
+
+slot-start-requires : tie.Need-slot-start-requires
+slot-start-requires c κs = search needs
+
+add-count : tie.Need-add-count
+add-count c = search needs
+
+mul-count : tie.Need-mul-count
+mul-count c = search needs
+
+shared-slice-read-count : tie.Need-shared-slice-read-count
+shared-slice-read-count c = search needs
+
+cast-count : tie.Need-cast-count
+cast-count c = omega (arith, c .shared-slice-known2 .given (c .before .slot-start .result + readCount))
+
+write-marks-requires : tie.Need-write-marks-requires
+write-marks-requires c κs = search needs
+
+add-hit : tie.Need-add-hit
+add-hit c = search needs
+
+hit-requires : tie.Need-hit-requires
+hit-requires c κs =
+    let a = c .before .before .before .before .args in
+    names-reads (a .cells) (a .number) _ (a .area .now) (c .before .before .slot-start .ensures) (c .before .before .before .before .pre) _ (omega (arith, c .write-marks .ensures))
+
+returns : tie.Need-returns
+unfolding raw
+returns c =
+    let a = c .before .before .before .before .before .args in
+    by-reads (a .cells) (a .number) _ (a .area .now) (c .before .before .before .slot-start .ensures) (λ m cells. hit m cells (a .number) (a .area .now)) _ _ (c .before .write-marks .ensures) _ (c .hit .ensures)
+
+pub raw-spec : {M : Type 1} → statement M
+raw-spec =
+    tie.close
+    (tie.spec
+    slot-start-requires
+    add-count
+    mul-count
+    shared-slice-read-count
+    cast-count
+    write-marks-requires
+    add-hit
+    hit-requires
+    returns)

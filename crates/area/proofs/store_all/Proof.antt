@@ -1,0 +1,92 @@
+-- The loop's invariant: the stores that are left, done on the table as it is, give the whole. The measure is how many are left. Assumes nothing.
+use mathlib.Core.Path.{_≡_, refl}
+use Prim.Native.Nat.{_+_, _-_, _≤_}
+use native.Mathlib.Omega.{arith}
+use lib.ListN.{length, drop, length-set}
+use borrow.Author.Needs.{needs}
+use Rattle.base.specs.Words.{words}
+use Rattle.area.specs.Marks.{storeAll}
+use Rattle.area.proofs.Loops.{storing-next, storing-end}
+use Rattle.area.proofs.store_all.Statement.{statement}
+use Rattle.area.proofs.store_all.Tie as tie
+
+abbrev Inv-loop : tie.InvT-loop
+Inv-loop table₀ area cells values count i₀ table i =
+    (i ≤ count) × (length table ≡ length table₀)
+    × (storeAll (drop i (words cells count area)) (drop i (words values count area)) table ≡ storeAll (words cells count area) (words values count area) table₀)
+
+abbrev μ-loop : tie.MeasureT-loop
+μ-loop table₀ area cells values count i₀ table i = count - i
+
+loop-holds : tie.Need-loop-holds Inv-loop μ-loop
+loop-holds c = (omega arith, refl, refl)
+
+add-c : tie.Need-add-c Inv-loop μ-loop
+add-c c = search needs
+
+mul-c : tie.Need-mul-c Inv-loop μ-loop
+mul-c c = search needs
+
+shared-slice-read-c : tie.Need-shared-slice-read-c Inv-loop μ-loop
+shared-slice-read-c c = search needs
+
+cast-c : tie.Need-cast-c Inv-loop μ-loop
+cast-c c = omega (arith, c .shared-slice-known .given (c .before .before .before .args .cells + c .before .before .loop .i))
+
+add-table : tie.Need-add-table Inv-loop μ-loop
+add-table c = search needs
+
+mul-table : tie.Need-mul-table Inv-loop μ-loop
+mul-table c = search needs
+
+shared-slice-read-table : tie.Need-shared-slice-read-table Inv-loop μ-loop
+shared-slice-read-table c = search needs
+
+mul-table-2 : tie.Need-mul-table-2 Inv-loop μ-loop
+mul-table-2 c = omega (arith, c .before .before .before .before .pre .in-table (c .before .before .before .loop .i) (c .before .before .loop-test .taken))
+
+slice-write-table : tie.Need-slice-write-table Inv-loop μ-loop
+slice-write-table c = omega (arith, c .before .before .before .before .pre .in-table (c .before .before .before .loop .i) (c .before .before .loop-test .taken))
+
+add-i : tie.Need-add-i Inv-loop μ-loop
+add-i c = search needs
+
+loop-less : tie.Need-loop-less Inv-loop μ-loop
+loop-less c = search needs
+
+loop-again : tie.Need-loop-again Inv-loop μ-loop
+loop-again c =
+    let a = c .before .before .before .before .args in
+    let l = c .before .before .before .loop in
+    (omega arith, simp length-set (l .inv .1), storing-next (a .cells) (a .values) (a .count) (a .area .now) (a .table .now) (c .before .before .before .before .pre) (l .i) (l .table) (l .inv .2) (c .before .before .loop-test .taken))
+
+same-length : tie.Need-same-length Inv-loop μ-loop
+same-length c = search needs
+
+returns : tie.Need-returns Inv-loop μ-loop
+returns c =
+    let a = c .before .before .args in
+    let l = c .before .loop in
+    storing-end (a .cells) (a .values) (a .count) (a .area .now) (a .table .now) (c .before .before .pre) (l .i) (l .table) (l .inv .2) (l .inv .0) (c .loop-test .left)
+
+pub store-all-spec : {M : Type 1} → statement M
+store-all-spec =
+    tie.close
+    (tie.spec
+    Inv-loop
+    μ-loop
+    loop-holds
+    add-c
+    mul-c
+    shared-slice-read-c
+    cast-c
+    add-table
+    mul-table
+    shared-slice-read-table
+    mul-table-2
+    slice-write-table
+    add-i
+    loop-less
+    loop-again
+    same-length
+    returns)

@@ -1,0 +1,4 @@
+pub mod Layout
+pub mod Marks
+pub mod Checks
+pub mod Opened

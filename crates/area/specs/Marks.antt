@@ -1,0 +1,45 @@
+-- Document 01, "The work area" and "The steps": what a mark says, how a program reserves, and its WAW, RAW and WAR by the marks. Assumes nothing.
+use Prim.Native.Nat.{ℕ, _+_}
+use mathlib.Core.Bool.{Bool, true, false, cond, _&&_, _||_}
+use mathlib.Core.List.{List, [], _∷_}
+use lib.ListN.{getD, set}
+use lib.Dec.{eqb, ltb, leb}
+use Rattle.area.specs.Layout.{writeMarks, readMarks, readsOf, storesOf}
+
+-- A mark is "0, or 1 + the smallest number of a gathered program that stores (reads) the cell".
+abbrev pub markOf : ℕ → ℕ
+markOf k = k + 1
+
+-- "a mark that is 0 or larger becomes this program's"
+unfoldable pub lower : ℕ → ℕ → ℕ
+lower mark mine = cond (eqb mark 0 || ltb mine mark) mine mark
+
+-- program k reserves each of the cells, lost ones included, in the marks that begin at the place
+unfoldable pub reserve : ℕ → List ℕ → ℕ → List ℕ → List ℕ
+reserve at [] k a = a
+reserve at (c ∷ cs) k a = reserve at cs k (set a (at + c) (lower (getD a (at + c) 0) (markOf k)))
+
+-- "With 'earlier' meaning a smaller number": the mark names a program earlier than k
+unfoldable pub earlier : ℕ → ℕ → Bool
+earlier mark k = ltb 0 mark && leb mark k
+
+-- some of the cells has such a mark, in the marks that begin at the place
+unfoldable pub hit : ℕ → List ℕ → ℕ → List ℕ → Bool
+hit at [] k a = false
+hit at (c ∷ cs) k a = earlier (getD a (at + c) 0) k || hit at cs k a
+
+-- "WAW: a stored cell's write mark names an earlier program. RAW: a read cell's write mark does. WAR: a stored cell's read mark does."
+unfoldable pub waw : ℕ → ℕ → List ℕ → Bool
+waw T k a = hit (writeMarks T) (storesOf T k a) k a
+
+unfoldable pub raw : ℕ → ℕ → List ℕ → Bool
+raw T k a = hit (writeMarks T) (readsOf T k a) k a
+
+unfoldable pub war : ℕ → ℕ → List ℕ → Bool
+war T k a = hit (readMarks T) (storesOf T k a) k a
+
+-- the table after stores, in their order
+unfoldable pub storeAll : List ℕ → List ℕ → List ℕ → List ℕ
+storeAll [] vs t = t
+storeAll (c ∷ cs) [] t = t
+storeAll (c ∷ cs) (v ∷ vs) t = storeAll cs vs (set t c v)

@@ -1,0 +1,36 @@
+-- The refusal is that of checks 1 to 9; where there is none, the checks have shown what gathering needs. Assumes nothing.
+use mathlib.Core.Path.{sym, _∙_}
+use borrow.Author.Needs.{needs}
+use Rattle.steps.proofs.Refusals.{gather-shows}
+use Rattle.steps.proofs.Says.{gather-refused, gather-done}
+use Rattle.steps.proofs.gather.Statement.{statement}
+use Rattle.steps.proofs.gather.Tie as tie
+
+gather-refusal-requires : tie.Need-gather-refusal-requires
+gather-refusal-requires c κs = search needs
+
+same-length : tie.Need-same-length
+same-length c = search needs
+
+returns : tie.Need-returns
+returns c = let a = c .before .before .before .before .before .before .args in gather-refused (a .image .now) (a .table .now) (a .area .now) (a .number) _ (c .before .gather-refusal .ensures) (c .if1 .taken)
+
+gather-checked-requires : tie.Need-gather-checked-requires
+gather-checked-requires c κs = let a = c .before .before .before .before .before .before .before .args in gather-shows (a .image .now) (a .table .now) (a .area .now) (a .number) (sym (c .before .before .gather-refusal .ensures) ∙ c .before .if1 .left)
+
+same-length-2 : tie.Need-same-length-2
+same-length-2 c = search needs
+
+returns-2 : tie.Need-returns-2
+returns-2 c = let a = c .before .before .before .before .before .before .before .before .before .before .args in gather-done (a .image .now) (a .table .now) (a .area .now) (a .number) _ (c .before .before .before .before .before .gather-refusal .ensures) (c .before .before .before .before .if1 .left) _ _ (c .before .before .gather-checked .ensures)
+
+pub gather-spec : {M : Type 1} → statement M
+gather-spec =
+    tie.close
+    (tie.spec
+    gather-refusal-requires
+    same-length
+    returns
+    gather-checked-requires
+    same-length-2
+    returns-2)

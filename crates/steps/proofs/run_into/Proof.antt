@@ -1,0 +1,66 @@
+-- The program is its part of the image, which can be run, and its slot is lent to the run and put back where it was. Assumes nothing.
+use mathlib.Core.Path.{sym, subst}
+use mathlib.Core.List.{List}
+use Prim.Native.Nat.{ℕ}
+use native.Mathlib.Omega.{arith}
+use lib.ListN.{length-take, length-drop}
+use borrow.Author.Needs.{needs}
+use Rattle.image.proofs.Laws.{accepted}
+use Rattle.machine.specs.Runs.{Runnable}
+use Rattle.machine.proofs.Laws.{part-runnable}
+use Rattle.steps.proofs.Slots.{runs-into}
+use Rattle.steps.proofs.run_into.Statement.{statement}
+use Rattle.steps.proofs.run_into.Tie as tie
+
+part-of-requires : tie.Need-part-of-requires
+part-of-requires c κs = let s = c .before .before .before in (accepted (s .args .image .now) (s .pre .0 .accepted) .offsets, s .pre .1, omega arith)
+
+slot-start-requires : tie.Need-slot-start-requires
+slot-start-requires c κs = search needs
+
+add-end : tie.Need-add-end
+add-end c = search needs
+
+mul-run-program : tie.Need-mul-run-program
+mul-run-program c = search needs
+
+sub-run-program : tie.Need-sub-run-program
+sub-run-program c = search needs
+
+part-run-program-start : tie.Need-part-run-program-start
+part-run-program-start c = search needs
+
+part-run-program-end : tie.Need-part-run-program-end
+part-run-program-end c = search needs
+
+run-program-requires : tie.Need-run-program-requires
+run-program-requires c κs =
+    let s = c .before .before .before .before .before .before in
+    let a = s .args in (
+      subst (λ (p : List ℕ). Runnable p) (sym (c .before .before .part-of .ensures .bytes-are)) (part-runnable (a .image .now) (s .pre .0 .accepted) (a .number) (s .pre .1)),
+      s .pre .0 .cells-few,
+      simp (length-take, length-drop) (omega (arith, s .pre .0 .sized, s .pre .1, c .before .slot-start .ensures)),
+    )
+
+same-length : tie.Need-same-length
+same-length c = search needs
+
+returns : tie.Need-returns
+returns c =
+    let a = c .before .before .before .before .before .before .before .before .before .args in
+    runs-into (a .image .now) (a .table .now) (a .area .now) (a .number) _ _ _ _ (c .before .before .before .before .slot-start .ensures) (c .before .before .before .before .before .part-of .ensures .bytes-are) (c .before .before .run-program .ensures)
+
+pub run-into-spec : {M : Type 1} → statement M
+run-into-spec =
+    tie.close
+    (tie.spec
+    part-of-requires
+    slot-start-requires
+    add-end
+    mul-run-program
+    sub-run-program
+    part-run-program-start
+    part-run-program-end
+    run-program-requires
+    same-length
+    returns)

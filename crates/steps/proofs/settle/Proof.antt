@@ -1,0 +1,44 @@
+-- The refusal is that of checks 1 to 9; where there is none, the checks have shown what settling needs. Assumes nothing.
+use mathlib.Core.Path.{sym, _∙_}
+use borrow.Author.Needs.{needs}
+use Rattle.steps.proofs.Refusals.{settle-shows}
+use Rattle.steps.proofs.Says.{settle-refused, settle-done}
+use Rattle.steps.proofs.settle.Statement.{statement}
+use Rattle.steps.proofs.settle.Tie as tie
+
+settle-refusal-requires : tie.Need-settle-refusal-requires
+settle-refusal-requires c κs = search needs
+
+same-length : tie.Need-same-length
+same-length c = search needs
+
+same-length-2 : tie.Need-same-length-2
+same-length-2 c = search needs
+
+returns : tie.Need-returns
+returns c = let a = c .before .before .before .before .before .before .before .args in settle-refused (a .image .now) (a .table .now) (a .area .now) (a .number) _ (c .before .settle-refusal .ensures) (c .if1 .taken)
+
+settle-checked-requires : tie.Need-settle-checked-requires
+settle-checked-requires c κs = let a = c .before .before .before .before .before .before .before .before .before .args in settle-shows (a .image .now) (a .table .now) (a .area .now) (a .number) (sym (c .before .before .before .settle-refusal .ensures) ∙ c .before .before .if1 .left)
+
+same-length-3 : tie.Need-same-length-3
+same-length-3 c = search needs
+
+same-length-4 : tie.Need-same-length-4
+same-length-4 c = search needs
+
+returns-2 : tie.Need-returns-2
+returns-2 c = let a = c .before .before .before .before .before .before .before .before .before .before .before .before .before .before .args in settle-done (a .image .now) (a .table .now) (a .area .now) (a .number) _ (c .before .before .before .before .before .before .before .before .settle-refusal .ensures) (c .before .before .before .before .before .before .before .if1 .left) _ _ _ (c .before .before .before .before .settle-checked .ensures)
+
+pub settle-spec : {M : Type 1} → statement M
+settle-spec =
+    tie.close
+    (tie.spec
+    settle-refusal-requires
+    same-length
+    same-length-2
+    returns
+    settle-checked-requires
+    same-length-3
+    same-length-4
+    returns-2)

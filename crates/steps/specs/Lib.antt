@@ -1,0 +1,5 @@
+pub mod Answers
+pub mod Opening
+pub mod Gathering
+pub mod Settling
+pub mod Opened

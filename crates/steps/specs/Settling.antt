@@ -1,0 +1,74 @@
+-- Document 01, "The steps": "Settling decides one gathered program and changes only its state and detail and, on a commit, the table."
+-- Assumes nothing.
+use Prim.Native.Nat.{ℕ}
+use mathlib.Core.Path.{_≡_}
+use mathlib.Core.Bool.{Bool, cond, _&&_}
+use mathlib.Core.List.{List}
+use lib.ListN.{length}
+use lib.Dec.{eqb}
+use Rattle.base.specs.Words.{unless}
+use Rattle.image.specs.Refusals.{refusing}
+use Rattle.image.specs.Image.{countOf, secondRule}
+use Rattle.slot.specs.States.{gathered}
+use Rattle.area.specs.Layout.{stateOf, storesOf, valuesOf, withState}
+use Rattle.area.specs.Marks.{waw, raw, war, storeAll}
+use Rattle.area.specs.Checks.{noneWaits}
+use Rattle.steps.specs.declared.Reason.the-variants.{Waw, Raw, RawWithWar}
+use Rattle.steps.specs.declared.Settled.{Settled}
+use Rattle.steps.specs.declared.Settled.the-variants.{Refused, Committed, Carried}
+use Rattle.steps.specs.Answers.{numbersOfSettled}
+use Rattle.steps.specs.Gathering.{stepRefusal}
+
+-- 9, "Settling: some state 0, or this one's not 1"
+unfoldable pub settles : ℕ → ℕ → ℕ → List ℕ → Bool
+settles T n k a = noneWaits T n a && eqb (stateOf T k a) gathered
+
+unfoldable pub settleRefusal : List ℕ → List ℕ → List ℕ → ℕ → ℕ
+settleRefusal image t a k = stepRefusal (settles (length t) (countOf image) k a) image t a k
+
+-- "Rule 1 commits without WAW and without RAW. Rule 2 commits without WAW and not with both RAW and WAR." The reasons: "1 WAW, looked at first; 2 RAW
+-- (Rule 1); 3 RAW with WAR (Rule 2)".
+unfoldable pub byRule1 : (waw raw : Bool) → Settled
+byRule1 waw raw = cond waw (Carried Waw) (cond raw (Carried Raw) Committed)
+
+unfoldable pub byRule2 : (waw raw war : Bool) → Settled
+byRule2 waw raw war = cond waw (Carried Waw) (cond (raw && war) (Carried RawWithWar) Committed)
+
+unfoldable pub decided : (second waw raw war : Bool) → Settled
+decided second waw raw war = cond second (byRule2 waw raw war) (byRule1 waw raw)
+
+-- the decision on program k by the marks and the rule
+unfoldable pub verdict : List ℕ → ℕ → ℕ → List ℕ → Settled
+verdict image T k a = decided (secondRule image) (waw T k a) (raw T k a) (war T k a)
+
+-- "A committed program's stores go into the table at its settling, in the slot's order."
+unfoldable pub settledTable : Settled → ℕ → List ℕ → List ℕ → List ℕ
+settledTable (Refused r) k a t = t
+settledTable Committed k a t = storeAll (storesOf (length t) k a) (valuesOf (length t) k a) t
+settledTable (Carried reason) k a t = t
+
+-- its state and detail are the decision's; "Marks and slots of carried programs stay."
+unfoldable pub settledArea : Settled → ℕ → ℕ → List ℕ → List ℕ
+settledArea v T k a = withState T k (numbersOfSettled v .state) (numbersOfSettled v .detail) a
+
+-- what the call answers and leaves
+unfoldable pub settleAnswer : List ℕ → List ℕ → List ℕ → ℕ → Settled
+settleAnswer image t a k = unless (settleRefusal image t a k) (λ r. Refused (refusing r)) (verdict image (length t) k a)
+
+unfoldable pub settleTable : List ℕ → List ℕ → List ℕ → ℕ → List ℕ
+settleTable image t a k = unless (settleRefusal image t a k) (λ r. t) (settledTable (verdict image (length t) k a) k a t)
+
+unfoldable pub settleArea : List ℕ → List ℕ → List ℕ → ℕ → List ℕ
+settleArea image t a k = unless (settleRefusal image t a k) (λ r. a) (settledArea (verdict image (length t) k a) (length t) k a)
+
+-- The contract of the call.
+pub record SettleSays (image t a : List ℕ) (k : ℕ) (r : Settled) (t′ a′ : List ℕ) : Type 0 where
+  pub answer : r ≡ settleAnswer image t a k
+  pub table : t′ ≡ settleTable image t a k
+  pub area : a′ ≡ settleArea image t a k
+
+-- The same where the checks have been made.
+pub record Settles (image t a : List ℕ) (k : ℕ) (r : Settled) (t′ a′ : List ℕ) : Type 0 where
+  pub answer : r ≡ verdict image (length t) k a
+  pub table : t′ ≡ settledTable (verdict image (length t) k a) k a t
+  pub area : a′ ≡ settledArea (verdict image (length t) k a) (length t) k a

@@ -1,0 +1,231 @@
+// Opening, gathering and settling: document 01, "The steps".
+ghost use mathlib.Core.Path.{_≡_};
+ghost use Prim.Native.Nat.{_<_};
+ghost use lib.ListN.{length};
+ghost use Rattle.image.specs.Image.{countOf};
+ghost use Rattle.area.specs.Checks.{Checked, Slotted};
+ghost use Rattle.steps.specs.Answers.{numbersOfSettled, reasonNumber};
+ghost use Rattle.steps.specs.Opening.{OpenSays};
+ghost use Rattle.steps.specs.Gathering.{gatherRefusal, GatherSays, Gathers, RunsInto};
+ghost use Rattle.steps.specs.Settling.{settleRefusal, byRule1, byRule2, decided, verdict, settledTable, SettleSays, Settles};
+
+// What gathering answers.
+pub enum Gathered {
+    Refused(image::Refusal),
+    Ran(machine::Run),
+}
+
+// Why a program is carried: one reason out of three.
+pub enum Reason {
+    Waw,
+    Raw,
+    RawWithWar,
+}
+
+// What settling answers.
+pub enum Settled {
+    Refused(image::Refusal),
+    Committed,
+    Carried(Reason),
+}
+
+// Opening sets the whole area to 0.
+pub fn open(image: &[u8], table: &[u32], area: &mut [u32]) -> u32
+    ensures { λ r. ⌜ OpenSays (now (image .entry)) (now (table .entry)) (now (area .entry)) r (now (area .exit)) ⌝ }
+{
+    let refused = area::open_refusal(image, table, area);
+    if refused != 0 {
+        return refused;
+    }
+    slot::clear(area);
+    0
+}
+
+// Checks 1 to 9 of gathering.
+fn gather_refusal(image: &[u8], table: &[u32], area: &[u32], number: usize) -> u32
+    ensures { λ r. ⌜ r ≡ gatherRefusal (now (image .entry)) (now (table .entry)) (now (area .entry)) number ⌝ }
+{
+    let refused = area::call_refusal(image, table, area);
+    if refused != 0 {
+        return refused;
+    }
+    if image::count(image) <= number {
+        return image::Refusal::NO_SUCH_PROGRAM;
+    }
+    if area::state(area, table.len(), number) != slot::WAITING {
+        return image::Refusal::WRONG_STATE;
+    }
+    0
+}
+
+// The program's run, from its part of the image into its slot.
+fn run_into(image: &[u8], table: &[u32], area: &mut [u32], number: usize) -> machine::Run
+    requires { ⌜ Checked (now image) (now table) (now area) × (number < countOf (now image)) ⌝ }
+    ensures { λ r. ⌜ RunsInto (now (image .entry)) (now (table .entry)) (now (area .entry)) number r (now (area .exit)) ⌝ }
+{
+    let part = image::part_of(image, number);
+    let at = area::slot_start(table.len(), number);
+    let end = at + slot::WORDS;
+    machine::run_program(part, table, &mut area[at..end])
+}
+
+// Gathering, where the checks have been made.
+pub fn gather_checked(image: &[u8], table: &[u32], area: &mut [u32], number: usize) -> machine::Run
+    requires { ⌜ Checked (now image) (now table) (now area) × (number < countOf (now image)) ⌝ }
+    ensures { λ r. ⌜ Gathers (now (image .entry)) (now (table .entry)) (now (area .entry)) number r (now (area .exit)) ⌝ }
+{
+    let run = run_into(image, table, area, number);
+    area::reserve_stores(area, table.len(), number);
+    area::reserve_reads(area, table.len(), number);
+    run
+}
+
+// Gathering runs one waiting program on the table, rewrites its slot and makes all its reservations.
+pub fn gather(image: &[u8], table: &[u32], area: &mut [u32], number: usize) -> Gathered
+    ensures { λ r. ⌜ GatherSays (now (image .entry)) (now (table .entry)) (now (area .entry)) number r (now (area .exit)) ⌝ }
+{
+    let refused = gather_refusal(image, table, area, number);
+    if refused != 0 {
+        return Gathered::Refused(image::Refusal { number: refused });
+    }
+    Gathered::Ran(gather_checked(image, table, area, number))
+}
+
+// Checks 1 to 9 of settling.
+fn settle_refusal(image: &[u8], table: &[u32], area: &[u32], number: usize) -> u32
+    ensures { λ r. ⌜ r ≡ settleRefusal (now (image .entry)) (now (table .entry)) (now (area .entry)) number ⌝ }
+{
+    let refused = area::call_refusal(image, table, area);
+    if refused != 0 {
+        return refused;
+    }
+    let n = image::count(image);
+    if n <= number {
+        return image::Refusal::NO_SUCH_PROGRAM;
+    }
+    if !area::none_waits(area, table.len(), n) {
+        return image::Refusal::WRONG_STATE;
+    }
+    if area::state(area, table.len(), number) != slot::GATHERED {
+        return image::Refusal::WRONG_STATE;
+    }
+    0
+}
+
+// Rule 1 commits without WAW and without RAW.
+fn by_rule_1(waw: bool, raw: bool) -> Settled
+    ensures { λ r. ⌜ r ≡ byRule1 waw raw ⌝ }
+{
+    if waw {
+        return Settled::Carried(Reason::Waw);
+    }
+    if raw {
+        return Settled::Carried(Reason::Raw);
+    }
+    Settled::Committed
+}
+
+// Rule 2 commits without WAW and not with both RAW and WAR.
+fn by_rule_2(waw: bool, raw: bool, war: bool) -> Settled
+    ensures { λ r. ⌜ r ≡ byRule2 waw raw war ⌝ }
+{
+    if waw {
+        return Settled::Carried(Reason::Waw);
+    }
+    if raw {
+        if war {
+            return Settled::Carried(Reason::RawWithWar);
+        }
+    }
+    Settled::Committed
+}
+
+// The decision, by the rule in force.
+fn decide(second: bool, waw: bool, raw: bool, war: bool) -> Settled
+    ensures { λ r. ⌜ r ≡ decided second waw raw war ⌝ }
+{
+    if second {
+        return by_rule_2(waw, raw, war);
+    }
+    by_rule_1(waw, raw)
+}
+
+// The decision on a program, by the marks.
+fn judge(image: &[u8], area: &[u32], cells: usize, number: usize) -> Settled
+    requires { ⌜ Slotted cells number (now area) ⌝ }
+    ensures { λ r. ⌜ r ≡ verdict (now (image .entry)) cells number (now (area .entry)) ⌝ }
+{
+    let second = image::second_rule(image);
+    let waw = area::waw(area, cells, number);
+    let raw = area::raw(area, cells, number);
+    let war = area::war(area, cells, number);
+    decide(second, waw, raw, war)
+}
+
+// The reason's number in document 01.
+pub fn reason_number(reason: Reason) -> u32
+    ensures { λ r. ⌜ r ≡ reasonNumber reason ⌝ }
+{
+    match reason {
+        Reason::Waw => 1,
+        Reason::Raw => 2,
+        Reason::RawWithWar => 3,
+    }
+}
+
+// The state that a decision leaves.
+fn state_of(settled: Settled) -> u32
+    ensures { λ r. ⌜ r ≡ numbersOfSettled settled .state ⌝ }
+{
+    match settled {
+        Settled::Refused(_) => 0,
+        Settled::Committed => slot::COMMITTED,
+        Settled::Carried(_) => slot::CARRIED,
+    }
+}
+
+// The detail that a decision leaves.
+fn detail_of(settled: Settled) -> u32
+    ensures { λ r. ⌜ r ≡ numbersOfSettled settled .detail ⌝ }
+{
+    match settled {
+        Settled::Refused(_) => 0,
+        Settled::Committed => 0,
+        Settled::Carried(reason) => reason_number(reason),
+    }
+}
+
+// The table takes the stores of a program that is committed.
+fn store_committed(settled: Settled, table: &mut [u32], area: &[u32], number: usize)
+    requires { ⌜ Slotted (length (now table)) number (now area) ⌝ }
+    ensures { λ _. ⌜ now (table .exit) ≡ settledTable settled number (now (area .entry)) (now (table .entry)) ⌝ }
+{
+    match settled {
+        Settled::Refused(_) => {}
+        Settled::Committed => area::commit(table, area, number),
+        Settled::Carried(_) => {}
+    }
+}
+
+// Settling, where the checks have been made.
+pub fn settle_checked(image: &[u8], table: &mut [u32], area: &mut [u32], number: usize) -> Settled
+    requires { ⌜ Checked (now image) (now table) (now area) × (number < countOf (now image)) ⌝ }
+    ensures { λ r. ⌜ Settles (now (image .entry)) (now (table .entry)) (now (area .entry)) number r (now (table .exit)) (now (area .exit)) ⌝ }
+{
+    let cells = table.len();
+    let settled = judge(image, area, cells, number);
+    store_committed(settled, table, area, number);
+    area::write_state(area, cells, number, state_of(settled), detail_of(settled));
+    settled
+}
+
+// Settling decides one gathered program; a committed one's stores go into the table.
+pub fn settle(image: &[u8], table: &mut [u32], area: &mut [u32], number: usize) -> Settled
+    ensures { λ r. ⌜ SettleSays (now (image .entry)) (now (table .entry)) (now (area .entry)) number r (now (table .exit)) (now (area .exit)) ⌝ }
+{
+    let refused = settle_refusal(image, table, area, number);
+    if refused != 0 {
+        return Settled::Refused(image::Refusal { number: refused });
+    }
+    settle_checked(image, table, area, number)
+}
