@@ -1,0 +1,65 @@
+-- Laws of writing one thing after another. Assumes nothing.
+use mathlib.Core.Path.{_≡_, refl, sym, ap, _∙_}
+use mathlib.Core.List.{List, [], _∷_, _++_, append-assoc, append-nil}
+use Prim.Native.Nat.{ℕ, _+_, _≤_, _<_}
+use native.Mathlib.Omega.{arith}
+use native.Mathlib.Numerals.{add-one}
+use lib.ListN.{length, getD, set, take, drop, length-append, length-drop, take-append-drop}
+use lib.Seq.{length-take-le, take-at, drop-at, drop-drop, sets-eq, paste, paste-suc, take-length}
+use Rattle.carry.specs.Writing.{pasted, Wrote}
+
+module _ (d : List ℕ) (at : ℕ) (w : List ℕ) (room : at + length w ≤ length d) where
+  head-length : length (take at d ++ w) ≡ at + length w
+  head-length = rw (length-append, length-take-le at d (omega arith))
+
+  length-pasted : length (pasted d at w) ≡ length d
+  unfolding pasted
+  length-pasted = rw (length-append, head-length, length-drop) (omega arith)
+
+  pasted-more : (x : List ℕ) → at + length w + length x ≤ length d → pasted (pasted d at w) (at + length w) x ≡ pasted d at (w ++ x)
+  unfolding pasted
+  pasted-more x h =
+      let rest : List ℕ = drop (at + length w) d in
+      let a : take (at + length w) (take at d ++ w ++ rest) ≡ take at d ++ w = take-at (take at d ++ w) rest (at + length w) head-length in
+      let b : drop (at + length w + length x) (take at d ++ w ++ rest) ≡ drop (at + length w + length x) d =
+      sym (drop-drop (length x) (at + length w) (take at d ++ w ++ rest))
+      ∙ ap (drop (length x)) (drop-at (take at d ++ w) rest (at + length w) head-length)
+      ∙ drop-drop (length x) (at + length w) d in
+      let e : at + length (w ++ x) ≡ at + length w + length x = rw length-append (omega arith) in
+      rw (a, b, e, append-assoc (take at d) w x)
+
+pasted-none : (d : List ℕ) (at : ℕ) → pasted d at [] ≡ d
+unfolding pasted
+pasted-none d at = let e : at + 0 ≡ at = omega arith in rw (e, append-nil, take-append-drop)
+
+pub pasted-front : (d w : List ℕ) → pasted d 0 w ≡ w ++ drop (length w) d
+unfolding pasted
+pasted-front d w = let e : 0 + length w ≡ length w = omega arith in rw e
+
+-- nothing, one after another, and what stays
+pub wrote-none : (d : List ℕ) (at : ℕ) → Wrote d at [] d at
+wrote-none d at = record { bytes = sym (pasted-none d at); next = omega arith }
+
+pub wrote-length : {a : List ℕ} {at : ℕ} {w b : List ℕ} {r : ℕ} → Wrote a at w b r → at + length w ≤ length a → length b ≡ length a
+wrote-length {a} {at} {w} {b} {r} h room = ap length (h .bytes) ∙ length-pasted a at w room
+
+pub wrote-more : {a : List ℕ} {at : ℕ} {w b : List ℕ} {r : ℕ} {x c : List ℕ} {s : ℕ} → Wrote a at w b r → Wrote b r x c s
+    → at + length w + length x ≤ length a → Wrote a at (w ++ x) c s
+wrote-more {a} {at} {w} {b} {r} {x} {c} {s} h k room =
+    record {
+      bytes = k .bytes ∙ rw (h .bytes, h .next) (pasted-more a at w (omega arith) x room);
+      next = rw length-append (omega (arith, h .next, k .next));
+    }
+
+-- two bytes; and a copy, one byte a turn
+pub wrote-pair : (d : List ℕ) (at x y : ℕ) → at + 2 ≤ length d → Wrote d at (x ∷ y ∷ []) (set (set d at x) (at + 1) y) (at + 2)
+unfolding pasted
+wrote-pair d at x y h = record { bytes = rw add-one (sets-eq (x ∷ y ∷ []) d at h); next = refl }
+
+pub wrote-copy : (d : List ℕ) (at : ℕ) (s out : List ℕ) (k r : ℕ) → out ≡ paste d at s k → k ≡ length s → r ≡ at + k → Wrote d at s out r
+unfolding pasted
+wrote-copy d at s out k r e f g = record { bytes = e ∙ rw (f, take-length); next = omega arith }
+
+pub copy-turn : (d : List ℕ) (at : ℕ) (s out : List ℕ) (k v : ℕ) → out ≡ paste d at s k → at + k < length d → k < length s → v ≡ getD s k 0
+    → set out (at + k) v ≡ paste d at s (k + 1)
+copy-turn d at s out k v e hd hs f = rw (e, f, add-one k) (paste-suc d at s k 0 hd hs)

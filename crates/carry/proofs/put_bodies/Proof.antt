@@ -1,0 +1,81 @@
+-- The loop's invariant: the bytes of the programs below i that are taken stand there. The measure is what is left of n. Assumes nothing.
+use mathlib.Core.Path.{_≡_, refl}
+use Prim.Native.Nat.{_≤_, _-_}
+use native.Mathlib.Omega.{arith}
+use lib.ListN.{length}
+use borrow.Author.Needs.{needs}
+use Rattle.carry.specs.Joined.{joined}
+use Rattle.carry.specs.Next.{picked}
+use Rattle.carry.specs.Writing.{takes}
+use Rattle.carry.specs.Writing.{Wrote}
+use Rattle.carry.proofs.Writing.{wrote-none}
+use Rattle.carry.proofs.Programs.{picked-none, joined-none, body-room, body-turn}
+use Rattle.carry.proofs.put_bodies.Statement.{statement}
+use Rattle.carry.proofs.put_bodies.Tie as tie
+
+abbrev Inv-loop : tie.InvT-loop
+Inv-loop out₀ at image n area cells all to₀ i₀ out to i =
+    (i ≤ n) × (length out ≡ length out₀) × Wrote out₀ at (joined (picked (takes all cells area) image i)) out to
+
+abbrev μ-loop : tie.MeasureT-loop
+μ-loop out₀ at image n area cells all to₀ i₀ out to i = n - i
+
+abbrev start-of : tie.At-loop Inv-loop μ-loop → tie.Start Inv-loop μ-loop
+start-of c = c .before .before .before .before
+
+loop-holds : tie.Need-loop-holds Inv-loop μ-loop
+loop-holds c =
+    let a = c .before .before .before .args in
+    (search needs, refl, rw (picked-none, joined-none) (wrote-none (a .out .now) (a .at)))
+
+put-body-requires : tie.Need-put-body-requires Inv-loop μ-loop
+put-body-requires c κs =
+    let h = c .before .before in
+    let l = h .loop in
+    let s = start-of h in
+    let a = s .args in (
+      s .pre .0,
+      omega arith,
+      body-room (takes (a .all) (a .cells) (a .area .now)) (a .image .now) (a .out .now) (a .at) (l .i) (a .n) (l .out) (l .to) (omega arith) (s .pre .1) (l .inv .1) (l .inv .2),
+    )
+
+add-i : tie.Need-add-i Inv-loop μ-loop
+add-i c = search needs
+
+loop-less : tie.Need-loop-less Inv-loop μ-loop
+loop-less c = search needs
+
+loop-again : tie.Need-loop-again Inv-loop μ-loop
+loop-again c =
+    let u = c .before .before .put-body in
+    let h = c .before .before .before .before .before in
+    let l = h .loop in
+    let s = start-of h in
+    let a = s .args in
+    let t = body-turn (takes (a .all) (a .cells) (a .area .now)) (a .image .now) (a .out .now) (a .at) (l .i) (a .n) (l .out) (l .to) (omega arith) (s .pre .1)
+    (l .inv .1) (l .inv .2) (u .last .0) (u .result) (u .ensures) in
+    (search needs, t .0, t .1)
+
+same-length : tie.Need-same-length Inv-loop μ-loop
+same-length c = search needs
+
+returns : tie.Need-returns Inv-loop μ-loop
+returns c =
+    let l = c .before .loop in
+    let a = start-of (c .before) .args in
+    let e : l .i ≡ a .n = omega arith in
+    rw e at (l .inv .2)
+
+pub put-bodies-spec : {M : Type 1} → statement M
+put-bodies-spec =
+    tie.close
+    (tie.spec
+    Inv-loop
+    μ-loop
+    loop-holds
+    put-body-requires
+    add-i
+    loop-less
+    loop-again
+    same-length
+    returns)

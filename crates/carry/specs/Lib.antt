@@ -1,0 +1,4 @@
+pub mod Joined
+pub mod Next
+pub mod Writing
+pub mod Opened

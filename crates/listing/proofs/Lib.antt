@@ -1,0 +1,10 @@
+pub mod Cases
+pub mod Knots
+pub mod Masks
+pub mod Orders
+pub mod Picks
+pub mod Rising
+pub mod Taken
+pub mod Turns
+pub mod Unique
+pub mod Whole

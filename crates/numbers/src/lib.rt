@@ -1,0 +1,66 @@
+// The numbers of what gathering and settling answer: document 01, "What each refusal says".
+ghost use Rattle.machine.specs.Runs.{stateOfRun, detailOfRun};
+ghost use Rattle.steps.specs.Answers.{doneWith, refusedBy, reasonNumber, numbersOfGathered, numbersOfSettled};
+ghost use Rattle.numbers.specs.Numbers.{Tells};
+ghost use mathlib.Core.Path.{_≡_};
+
+// The refusal, or 0 with the slot's state and detail.
+#[repr(C)]
+pub struct StepNumbers {
+    pub refusal: u32,
+    pub state: u32,
+    pub detail: u32,
+}
+
+fn refused(refusal: image::Refusal) -> StepNumbers
+    ensures { λ r. ⌜ Tells (refusedBy (refusal .number)) r ⌝ }
+{
+    StepNumbers {
+        refusal: refusal.number,
+        state: 0,
+        detail: 0,
+    }
+}
+
+fn done(state: u32, detail: u32) -> StepNumbers
+    ensures { λ r. ⌜ Tells (doneWith state detail) r ⌝ }
+{
+    StepNumbers {
+        refusal: 0,
+        state,
+        detail,
+    }
+}
+
+fn of_run(run: machine::Run) -> StepNumbers
+    ensures { λ r. ⌜ Tells (doneWith (stateOfRun run) (detailOfRun run)) r ⌝ }
+{
+    match run {
+        machine::Run::Finished => done(slot::GATHERED, 0),
+        machine::Run::Rejected(code) => done(slot::REJECTED, code as u32),
+        machine::Run::Faulted { kind, at } => {
+            done(slot::FAULTED, 256 * (kind as u32) + (at as u32))
+        }
+    }
+}
+
+// Of gathering.
+pub fn of_gathered(answer: steps::Gathered) -> StepNumbers
+    ensures { λ r. ⌜ Tells (numbersOfGathered answer) r ⌝ }
+{
+    match answer {
+        steps::Gathered::Refused(refusal) => refused(refusal),
+        steps::Gathered::Ran(run) => of_run(run),
+    }
+}
+
+// Of settling.
+pub fn of_settled(answer: steps::Settled) -> StepNumbers
+    ensures { λ r. ⌜ Tells (numbersOfSettled answer) r ⌝ }
+{
+    match answer {
+        steps::Settled::Refused(refusal) => refused(refusal),
+        steps::Settled::Committed => done(slot::COMMITTED, 0),
+        steps::Settled::Carried(reason) => done(slot::CARRIED, steps::reason_number(reason)),
+    }
+}

@@ -1,0 +1,36 @@
+// Sheetbendle runs one batch of small programs against a table of 32-bit cells, by the two phases of the Aria paper. A board lends the image (the
+// programs), the table, and a work area of 2T + 100n words for T cells and n programs, and makes these calls in this order:
+//
+//   open         clears the work area for this image and this table.
+//   gather       runs one program on the table and writes down what it reads and stores; once for each program, in any order.
+//   settle       decides one gathered program, once all are gathered; a committed one's stores go into the table; in any order.
+//   order        lists the committed programs in an order in which running them one after another gives the same table.
+//   next_image   makes the next batch's image: the carried programs, then those of a fresh image.
+//
+// Beside these, `program` hands back one program as a part of the image, and `program_refusal` says why it does not.
+// `second_rule` says whether Rule 2 is in force; `of_gathered` and `of_settled` give the numbers of an answer.
+// Every call answers for every input. A refusal carries its number from document 01 and changes nothing that was lent.
+pub use carry::Next;
+pub use carry::next_image;
+pub use image::Image;
+pub use image::Refusal;
+pub use image::program;
+pub use image::program_refusal;
+pub use image::second_rule;
+pub use listing::Listed;
+pub use listing::order;
+pub use machine::Run;
+pub use numbers::StepNumbers;
+pub use numbers::of_gathered;
+pub use numbers::of_settled;
+pub use steps::Gathered;
+pub use steps::Reason;
+pub use steps::Settled;
+pub use steps::gather;
+pub use steps::open;
+pub use steps::settle;
+
+// A program's slot in the work area, and the most words that an area has: for T cells and n programs it has 2T + SLOT_WORDS × n.
+pub const SLOT_WORDS: usize = slot::WORDS;
+
+pub const AREA_WORDS: usize = 2 * image::Image::CELLS + SLOT_WORDS * image::Image::PROGRAMS;
