@@ -1,0 +1,151 @@
+-- What the table and the area at a batch's end say, in the paper's words: who is committed, who is carried, and the listed order. Assumes nothing.
+use Prim.Native.Nat.{ℕ, _≤_, _<_}
+use mathlib.Core.Path.{_≡_, refl, sym, _∙_, ap}
+use mathlib.Core.Logic.{_⊎_, inl, inr}
+use mathlib.Core.Bool.{Bool, true, false, not, cond, _&&_}
+use mathlib.Core.List.{List}
+use native.Mathlib.Omega.{arith}
+use lib.Dec.{eqb, ltb}
+use lib.ListN.{length, List·getD-eq-default}
+use borrow.Author.Tests.{eq-eqb, ltb-true, ltb-false}
+use Rattle.base.specs.Words.{count, some, has, distinct}
+use Rattle.base.proofs.Bools.{known, clash, and-same}
+use Rattle.base.proofs.Counts.{count-ext}
+use Rattle.image.specs.Image.{countOf}
+use Rattle.slot.specs.States.{committed, carried}
+use Rattle.machine.specs.declared.Run.{Run}
+use Rattle.machine.specs.declared.Run.the-variants.{Finished, Rejected, Faulted}
+use Rattle.machine.specs.Runs.{stateOfRun}
+use Rattle.area.specs.Layout.{areaWords, stateAt, stateOf, readsOf, storesOf}
+use Rattle.area.specs.Checks.{Checked}
+use Rattle.listing.specs.Listing.{isCommitted, committedCount, orderOf, orderExists}
+use Rattle.listing.proofs.Taken.{listed-ext}
+use Rattle.carry.specs.Next.{isCarried}
+use Rattle.promises.specs.Paper.{Batch, batchOf, finishes, finished, readSet, writeSet, waw, raw, war, rule1, rule2, commits, stateAfter, tableAfter}
+use Rattle.promises.specs.Laid.{World, all, paperWorld}
+use Rattle.promises.specs.History.{RunToEnd}
+use Rattle.promises.specs.Batches.{isDone}
+use Rattle.promises.proofs.Deciding.{commits-finished}
+use Rattle.promises.proofs.Installing.{installed-length}
+use Rattle.promises.proofs.Stepping.{Opens, opens, checked-on}
+use Rattle.promises.proofs.Histories.{paper-end, paper-table, paper-state, paper-reads, paper-stores}
+use Rattle.promises.proofs.PaperOrder.{paperOrder, order-members, order-distinct, order-length}
+
+-- ---- how a program ends, by the paper
+
+module _ (b : Batch) (k : ℕ) where
+  pub committed-is : eqb (stateAfter b k) committed ≡ commits b k
+  unfolding stateAfter
+  committed-is = go (b .runs k .answer) (commits b k) (commits-finished b k)
+    where
+      go : (r : Run) (c : Bool) → (c ≡ true → finishes r ≡ true) → eqb (cond (finishes r) (cond c committed carried) (stateOfRun r)) committed ≡ c
+      go Finished true h = refl
+      go Finished false h = refl
+      go (Rejected code) true h = clash (h refl) refl
+      go (Rejected code) false h = refl
+      go (Faulted kind at) true h = clash (h refl) refl
+      go (Faulted kind at) false h = refl
+
+  -- committed, rejected and faulted are all the ends but one
+  pub done-is : isDone (stateAfter b k) ≡ not (eqb (stateAfter b k) carried)
+  unfolding stateAfter isDone
+  done-is = go (b .runs k .answer) (commits b k)
+    where
+      go : (r : Run) (c : Bool) → (let s = cond (finishes r) (cond c committed carried) (stateOfRun r) in isDone s ≡ not (eqb s carried))
+      go Finished true = refl
+      go Finished false = refl
+      go (Rejected code) c = refl
+      go (Faulted kind at) c = refl
+
+-- nothing is earlier than program 0, so it has nothing against it
+pub zero-commits : (b : Batch) → commits b 0 ≡ finished b 0
+unfolding commits waw raw war some
+zero-commits b = go (finished b 0) (b .second)
+  where
+    go : (f second : Bool) → f && cond second (rule2 false false false) (rule1 false false) ≡ f
+    go true true = refl
+    go true false = refl
+    go false second = refl
+
+pub zero-ends : (b : Batch) → eqb (stateAfter b 0) carried ≡ false
+unfolding stateAfter
+zero-ends b = rw zero-commits (go (b .runs 0 .answer))
+  where
+    go : (r : Run) → eqb (cond (finishes r) (cond (finishes r) committed carried) (stateOfRun r)) carried ≡ false
+    go Finished = refl
+    go (Rejected code) = refl
+    go (Faulted kind at) = refl
+
+-- ---- and by the area
+
+-- where the area ends there is no state
+state-past : (T n k : ℕ) (a : List ℕ) → length a ≡ areaWords T n → n ≤ k → stateOf T k a ≡ 0
+unfolding stateOf
+state-past T n k a e l = List·getD-eq-default a 0 {n = stateAt T k} (omega arith)
+
+-- all that is asked of the end here: the table is the paper's, the checks pass, and each slot tells its program's state, reads and stores
+pub record PaperEnd (image t : List ℕ) (w : World) : Type 0 where
+  pub table-is : w .table ≡ tableAfter (batchOf image t) t
+  pub checks : Checked image (w .table) (w .area)
+  pub state-is : (k : ℕ) → k < countOf image → stateOf (length t) k (w .area) ≡ stateAfter (batchOf image t) k
+  pub reads-are : (k : ℕ) → k < countOf image → readsOf (length t) k (w .area) ≡ readSet (batchOf image t) k
+  pub stores-are : (k : ℕ) → k < countOf image → storesOf (length t) k (w .area) ≡ writeSet (batchOf image t) k
+
+paper-shows : (image t : List ℕ) → Opens image t → PaperEnd image t (paperWorld image t)
+paper-shows image t opens =
+    record {
+      table-is = paper-table image t;
+      checks = checked-on image t opens all all;
+      state-is = paper-state image t (opens .accepted);
+      reads-are = paper-reads image t (opens .accepted);
+      stores-are = paper-stores image t (opens .accepted);
+    }
+
+pub paper-ends : {image t : List ℕ} {w : World} → RunToEnd image t w → PaperEnd image t w
+paper-ends {image} {t} {w} run = rw (paper-end image t w run) (paper-shows image t (opens image t (run .found) (run .opens)))
+
+module _ {image t : List ℕ} {w : World} (end : PaperEnd image t w) where
+  pub end-sized : length (w .table) ≡ length t
+  unfolding tableAfter
+  end-sized = ap length (end .table-is) ∙ installed-length (batchOf image t) t (commits (batchOf image t)) (countOf image)
+
+  pub end-committed : (k : ℕ) → k < countOf image → isCommitted (length t) (w .area) k ≡ commits (batchOf image t) k
+  unfolding isCommitted
+  end-committed k l = rw (end .state-is k l) (committed-is (batchOf image t) k)
+
+  pub end-count : committedCount (length t) (countOf image) (w .area) ≡ count (commits (batchOf image t)) (countOf image)
+  unfolding committedCount
+  end-count = count-ext _ _ (countOf image) end-committed
+
+  pub end-order : orderOf (length t) (countOf image) (w .area) ≡ paperOrder (batchOf image t)
+  unfolding orderOf paperOrder
+  end-order =
+      listed-ext (countOf image) _ _ _ _ (countOf image) _ _
+      (record { left-same = end-committed; reads-same = λ k l e. end .reads-are k l; stores-same = λ k l e. end .stores-are k l })
+
+  -- the taking gets through
+  pub end-exists : orderExists (length t) (countOf image) (w .area) ≡ true
+  unfolding orderExists
+  end-exists = eq-eqb _ _ (ap length end-order ∙ order-length (batchOf image t) ∙ sym end-count)
+
+  pub end-distinct : distinct (orderOf (length t) (countOf image) (w .area)) ≡ true
+  end-distinct = ap distinct end-order ∙ order-distinct (batchOf image t)
+
+  pub end-members : (k : ℕ) → has k (orderOf (length t) (countOf image) (w .area)) ≡ ltb k (countOf image) && isCommitted (length t) (w .area) k
+  end-members k =
+      rw end-order (order-members (batchOf image t) k)
+      ∙ and-same (ltb k (countOf image)) (λ e. sym (end-committed k (ltb-true k (countOf image) e)))
+
+  -- a program that is not carried is done with
+  pub end-done : (k : ℕ) → k < countOf image → isDone (stateOf (length t) k (w .area)) ≡ not (isCarried (length t) (w .area) k)
+  unfolding isCarried
+  end-done k l = rw (end .state-is k l) (done-is (batchOf image t) k)
+
+  -- program 0 is not carried; where there is none, the area ends before its slot
+  pub end-zero : isCarried (length t) (w .area) 0 ≡ false
+  unfolding isCarried
+  end-zero = go (known (ltb 0 (countOf image)))
+    where
+      go : (ltb 0 (countOf image) ≡ true) ⊎ (ltb 0 (countOf image) ≡ false) → eqb (stateOf (length t) 0 (w .area)) carried ≡ false
+      go (inl e) = rw (end .state-is 0 (ltb-true _ _ e)) (zero-ends (batchOf image t))
+      go (inr e) = rw (state-past (length t) (countOf image) 0 (w .area) (rw end-sized at (end .checks .sized)) (ltb-false _ _ e))

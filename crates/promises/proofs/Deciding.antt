@@ -1,0 +1,88 @@
+-- Who commits: what a commit tells, and the decision in the words of the call. Assumes nothing.
+use mathlib.Core.Path.{_≡_, refl, sym, _∙_}
+use mathlib.Core.Bool.{Bool, true, false, cond, _&&_}
+use Prim.Native.Nat.{ℕ, _<_}
+use native.Mathlib.Decide.{decLt}
+use native.Mathlib.Omega.{arith}
+use Rattle.base.specs.Words.{meets}
+use Rattle.base.proofs.Bools.{and-left, and-right}
+use Rattle.base.proofs.Members.{meets-swap}
+use Rattle.base.proofs.Somes.{some-none}
+use Rattle.slot.specs.States.{committed, carried}
+use Rattle.steps.specs.declared.Reason.the-variants.{Waw, Raw, RawWithWar}
+use Rattle.steps.specs.declared.Settled.{Settled}
+use Rattle.steps.specs.declared.Settled.the-variants.{Committed, Carried}
+use Rattle.steps.specs.Answers.{reasonNumber, numbersOfSettled}
+use Rattle.steps.specs.Settling.{byRule1, byRule2, decided}
+use Rattle.promises.specs.Paper.{Batch, writeSet, finished, waw, war, raw, rule1, rule2, commits, reason, stateAfter, detailAfter}
+
+-- ---- what a commit tells
+
+module _ (b : Batch) (k : ℕ) where
+  -- what the rule in force says, apart from finishing
+  abbrev byRule : Bool
+  byRule = cond (b .second) (rule2 (waw b k) (raw b k) (war b k)) (rule1 (waw b k) (raw b k))
+
+  pub commits-finished : commits b k ≡ true → finished b k ≡ true
+  unfolding commits
+  commits-finished e = and-left (finished b k) byRule e
+
+  pub commits-waw : commits b k ≡ true → waw b k ≡ false
+  unfolding commits
+  commits-waw e = go (b .second) (waw b k) (raw b k) (war b k) (and-right (finished b k) byRule e)
+    where
+      go : (second w r v : Bool) → cond second (rule2 w r v) (rule1 w r) ≡ true → w ≡ false
+      go true true r v h = sym h
+      go true false r v h = refl
+      go false true r v h = sym h
+      go false false r v h = refl
+
+-- two programs that commit store no common cell: the later one would have WAW
+pub no-common : (b : Batch) (j k : ℕ) → (j ≡ k → ⊥) → commits b j ≡ true → commits b k ≡ true → meets (writeSet b j) (writeSet b k) ≡ false
+unfolding waw
+no-common b j k apart cj ck = go (decLt j k)
+  where
+    go : Dec (j < k) → meets (writeSet b j) (writeSet b k) ≡ false
+    go (yes l) = meets-swap (writeSet b j) (writeSet b k) ∙ some-none k (λ i. meets (writeSet b k) (writeSet b i)) (commits-waw b k ck) j l
+    go (no l) = let m : k < j = omega (arith, apart) in some-none j (λ i. meets (writeSet b j) (writeSet b i)) (commits-waw b j cj) k m
+
+-- ---- the decision
+
+-- what settling answers of program k
+unfoldable pub decisionOn : Batch → ℕ → Settled
+decisionOn b k = cond (commits b k) Committed (Carried (reason b k))
+
+module _ (b : Batch) (k : ℕ) (f : finished b k ≡ true) where
+  -- the rules of the call are the paper's
+  pub decided-is : decided (b .second) (waw b k) (raw b k) (war b k) ≡ decisionOn b k
+  unfolding decided byRule1 byRule2 decisionOn commits reason
+  decided-is = rw f (go (b .second) (waw b k) (raw b k) (war b k))
+    where
+      go : (second w r v : Bool)
+          → cond second (cond w (Carried Waw) (cond (r && v) (Carried RawWithWar) Committed)) (cond w (Carried Waw) (cond r (Carried Raw) Committed))
+          ≡ cond (cond second (rule2 w r v) (rule1 w r)) Committed (Carried (cond w Waw (cond second RawWithWar Raw)))
+      go true true r v = refl
+      go true false true true = refl
+      go true false true false = refl
+      go true false false true = refl
+      go true false false false = refl
+      go false true r v = refl
+      go false false true v = refl
+      go false false false v = refl
+
+  -- and so are the numbers that it leaves in the slot
+  pub decision-state : numbersOfSettled (decisionOn b k) .state ≡ stateAfter b k
+  unfolding decisionOn stateAfter
+  decision-state = rw f (go (commits b k))
+    where
+      go : (c : Bool) → numbersOfSettled (cond c Committed (Carried (reason b k))) .state ≡ cond c committed carried
+      go true = refl
+      go false = refl
+
+  pub decision-detail : numbersOfSettled (decisionOn b k) .detail ≡ detailAfter b k
+  unfolding decisionOn detailAfter
+  decision-detail = rw f (go (commits b k))
+    where
+      go : (c : Bool) → numbersOfSettled (cond c Committed (Carried (reason b k))) .detail ≡ cond c 0 (reasonNumber (reason b k))
+      go true = refl
+      go false = refl

@@ -1,0 +1,182 @@
+-- Demand 2 and the first half of demand 3, and that only the rules act on the way: what any history of the calls leaves. Assumes nothing.
+use mathlib.Core.Path.{_≡_, refl, sym, ap, _∙_}
+use mathlib.Core.Bool.{true, false}
+use mathlib.Core.List.{List, _++_, map}
+use Prim.Native.Nat.{ℕ, _<_}
+use lib.ListN.{length, replicate}
+use Rattle.base.specs.Words.{words, tabulate, has}
+use Rattle.image.specs.Image.{countOf, refusalOf}
+use Rattle.slot.specs.Layout.{slotWords}
+use Rattle.slot.specs.Log.{layout}
+use Rattle.slot.specs.Log.{logOf as logIn}
+use Rattle.machine.specs.Runs.{slotOf}
+use Rattle.area.specs.Layout.{writeMarks, readMarks, stateOf, detailOf, slotAt, readsOf, storesOf, valuesOf}
+use Rattle.area.specs.Checks.{callRefusal, openRefusal}
+use Rattle.steps.specs.Gathering.{runAt}
+use Rattle.listing.specs.Listing.{orderOf}
+use Rattle.promises.specs.Paper.{batchOf, logOf, readSet, writeSet, written, finished, stateAfter, detailAfter, tableAfter}
+use Rattle.promises.specs.Laid.{World, writeMark, readMark, slotOn, tableOn, worldOn, all, paperWorld, gatheredIn, settledIn}
+use Rattle.promises.specs.History.{Step, gather, settle, worldAfter, isOver, Whole, RunToEnd}
+use Rattle.promises.proofs.Installing.{table-opening}
+use Rattle.promises.proofs.SlotLaws.{stateBy, detailBy, logBy}
+use Rattle.promises.proofs.Views.{Fitting, write-marks-on, read-marks-on, slot-on, gathered-on, log-on, state-on, detail-on, reads-on, stores-on, values-on}
+use Rattle.promises.proofs.Stepping.{opens, Phased, runs-fit, call-on}
+use Rattle.promises.proofs.Progress.{Progress, none-yet, movedBy, moved-append, gathered-keeps, gathers-gathered, settles-settled, gathers-each, settles-each}
+use Rattle.promises.proofs.Playing.{reached, reached-phased, world-reached}
+use Rattle.promises.proofs.Endings.{says-itself, over-is, over-paper, settled-gathered}
+
+-- ---- Demand 2 and the first half of demand 3
+
+-- "Whatever the history, if at its end no state is 0 or 1, table and area are the paper's."
+pub paper-end : (image t : List ℕ) (w : World) → RunToEnd image t w → w ≡ paperWorld image t
+paper-end image t w r =
+    let at = world-reached image t (r .found) (r .opens) (r .history) in
+    let p = reached image (r .history) in
+    r .plays ∙ (at ∙ over-paper image t (opens image t (r .found) (r .opens) .accepted) (p .gathered) (p .settled) (rw (r .plays, at) at (r .over)))
+
+-- "So any two such histories end with equal tables, areas and listed orders."
+pub same-end : (image t : List ℕ) (v w : World) → RunToEnd image t v → RunToEnd image t w → v ≡ w
+same-end image t v w r s = paper-end image t v r ∙ sym (paper-end image t w s)
+
+pub same-order : (image t : List ℕ) (v w : World) → RunToEnd image t v → RunToEnd image t w
+    → orderOf (length t) (countOf image) (v .area) ≡ orderOf (length t) (countOf image) (w .area)
+same-order image t v w r s = ap (λ (x : World). orderOf (length t) (countOf image) (x .area)) (same-end image t v w r s)
+
+-- The paper's world has "the outcome under Rule 1 and under Rule 2, the table afterwards", and in each slot its program's run.
+pub paper-table : (image t : List ℕ) → paperWorld image t .table ≡ tableAfter (batchOf image t) t
+unfolding tableOn tableAfter
+paper-table image t = refl
+
+module _ (image t : List ℕ) (accepted : refusalOf image ≡ 0) (k : ℕ) (number : k < countOf image) where
+  pub paper-state : stateOf (length t) k (paperWorld image t .area) ≡ stateAfter (batchOf image t) k
+  unfolding stateBy
+  paper-state = state-on (batchOf image t) all all (length t) (runs-fit image t accepted) k number
+
+  pub paper-detail : detailOf (length t) k (paperWorld image t .area) ≡ detailAfter (batchOf image t) k
+  unfolding detailBy
+  paper-detail = detail-on (batchOf image t) all all (length t) (runs-fit image t accepted) k number
+
+  pub paper-reads : readsOf (length t) k (paperWorld image t .area) ≡ readSet (batchOf image t) k
+  unfolding logBy
+  paper-reads = reads-on (batchOf image t) all all (length t) (runs-fit image t accepted) k number
+
+  pub paper-stores : storesOf (length t) k (paperWorld image t .area) ≡ writeSet (batchOf image t) k
+  unfolding logBy
+  paper-stores = stores-on (batchOf image t) all all (length t) (runs-fit image t accepted) k number
+
+  pub paper-values : valuesOf (length t) k (paperWorld image t .area) ≡ written (batchOf image t) k
+  unfolding logBy
+  paper-values = values-on (batchOf image t) all all (length t) (runs-fit image t accepted) k number
+
+-- ---- It is not empty
+
+-- "Every history in which each program's gathering stands somewhere, and later each gathered program's settling, ends so, whatever refused, repeated
+-- or out-of-range steps stand in between."
+pub whole-ends : (image t found : List ℕ) → openRefusal image t found ≡ 0 → (first second : List Step) → Whole image t first second
+    → isOver image (worldAfter image t found (first ++ second)) ≡ true
+whole-ends image t found e first second whole =
+    let n : ℕ = countOf image in
+    let p : Progress = movedBy n first none-yet in
+    let gathered : (k : ℕ) → k < n → p .gathered k ≡ true = λ k l. gathers-gathered n k first none-yet (whole .all-gathered k l) in
+    rw (world-reached image t found e (first ++ second), moved-append n first second none-yet)
+    (over-is image t (opens image t found e .accepted) _ _
+    (λ k l. (gathered-keeps n k second p (gathered k l), λ f. settles-settled n k second p gathered (whole .all-settled k l f))))
+
+-- so it is a batch run to its end
+pub whole-run : (image t found : List ℕ) → openRefusal image t found ≡ 0 → (first second : List Step) → Whole image t first second
+    → RunToEnd image t (worldAfter image t found (first ++ second))
+whole-run image t found e first second whole =
+    record { found = found; history = first ++ second; opens = e; plays = refl; over = whole-ends image t found e first second whole }
+
+-- The programs' numbers in any order, each gathered and then each that finished settled, are such a history: "each once" is one of them.
+pub orders-whole : (image t gathering settling : List ℕ) → ((k : ℕ) → k < countOf image → has k gathering ≡ true)
+    → ((k : ℕ) → k < countOf image → finished (batchOf image t) k ≡ true → has k settling ≡ true)
+    → Whole image t (map gather gathering) (map settle settling)
+orders-whole image t gathering settling g s =
+    record { all-gathered = λ k l. gathers-each k gathering ∙ g k l; all-settled = λ k l f. settles-each k settling ∙ s k l f }
+
+-- "The literal sentence of demand 3 (each once, any two orders, refused steps included)": gathered in any order and then settled in any order, in
+-- whatever area was found, the two end with equal tables and areas, the paper's, and with equal listed orders.
+pub any-two-orders : (image t found found′ : List ℕ) → openRefusal image t found ≡ 0 → openRefusal image t found′ ≡ 0
+    → (first second first′ second′ : List Step) → Whole image t first second → Whole image t first′ second′
+    → (v w : World) → v ≡ worldAfter image t found (first ++ second) → w ≡ worldAfter image t found′ (first′ ++ second′)
+    → (v ≡ paperWorld image t) × (w ≡ v) × (orderOf (length t) (countOf image) (w .area) ≡ orderOf (length t) (countOf image) (v .area))
+any-two-orders image t found found′ e e′ first second first′ second′ whole whole′ v w plays plays′ =
+    let r = whole-run image t found e first second whole in
+    let r′ = whole-run image t found′ e′ first′ second′ whole′ in
+    let x = plays ∙ paper-end image t _ r in
+    let y = plays′ ∙ paper-end image t _ r′ in
+    (x, y ∙ sym x, ap (λ (u : World). orderOf (length t) (countOf image) (u .area)) (y ∙ sym x))
+
+-- ---- Only by the rules on the way
+
+-- A batch opened on the table t in whatever area was found, any history of it, ended or not, and the world that it leaves.
+module _ (image t found : List ℕ) (opened : openRefusal image t found ≡ 0) (history : List Step) (w : World)
+    (plays : w ≡ worldAfter image t found history) where
+  abbrev p : Progress
+  p = reached image history
+
+  is : w ≡ worldOn image t (p .gathered) (p .settled)
+  is = plays ∙ world-reached image t found opened history
+
+  fits : Fitting (batchOf image t) (length t)
+  fits = runs-fit image t (opens image t found opened .accepted)
+
+  -- Table and area are the paper's for those programs that the area's own states say are gathered and settled.
+  pub on-the-way : w ≡ worldOn image t (gatheredIn (length t) (w .area)) (settledIn (length t) (w .area))
+  on-the-way =
+      is
+      ∙ (says-itself image t (opens image t found opened .accepted) (p .gathered) (p .settled) (reached-phased image history)
+      ∙ ap (λ (x : World). worldOn image t (gatheredIn (length t) (x .area)) (settledIn (length t) (x .area))) (sym is))
+
+  -- "After any history (ended or not) the area passes check 7"
+  pub checked-on-the-way : callRefusal image (w .table) (w .area) ≡ 0
+  checked-on-the-way =
+      ap (λ (x : World). callRefusal image (x .table) (x .area)) is ∙ call-on image t (opens image t found opened) (p .gathered) (p .settled)
+
+  -- "each gathered slot holds its program's run from the opening table": its reads, stores and values are those of that run,
+  pub log-on-the-way : (k : ℕ) → k < countOf image → gatheredIn (length t) (w .area) k ≡ true
+      → logIn (slotAt (length t) k (w .area)) ≡ logOf (batchOf image t) k
+  unfolding logBy
+  log-on-the-way k l g =
+      ap (λ (x : World). logIn (slotAt (length t) k (x .area))) on-the-way ∙ (log-on (batchOf image t) _ _ (length t) fits k l ∙ rw g)
+
+  -- and its state and detail are the run's, until it is settled, and then those that the paper gives it. A waiting slot is all 0.
+  pub slot-on-the-way : (k : ℕ) → k < countOf image
+      → slotAt (length t) k (w .area) ≡ slotOn (batchOf image t) (gatheredIn (length t) (w .area)) (settledIn (length t) (w .area)) k
+  slot-on-the-way k l = ap (λ (x : World). slotAt (length t) k (x .area)) on-the-way ∙ slot-on (batchOf image t) _ _ (length t) fits k l
+
+  pub gathered-slot : (k : ℕ) → k < countOf image → gatheredIn (length t) (w .area) k ≡ true → settledIn (length t) (w .area) k ≡ false
+      → slotAt (length t) k (w .area) ≡ slotOf (runAt image t k)
+  unfolding slotOn
+  gathered-slot k l g s = slot-on-the-way k l ∙ rw (g, s)
+
+  pub settled-slot : (k : ℕ) → k < countOf image → settledIn (length t) (w .area) k ≡ true
+      → slotAt (length t) k (w .area) ≡ layout (stateAfter (batchOf image t) k) (detailAfter (batchOf image t) k) (logOf (batchOf image t) k)
+  unfolding slotOn
+  settled-slot k l s = slot-on-the-way k l ∙ rw (settled-gathered (length t) (w .area) k s, s)
+
+  pub waiting-slot : (k : ℕ) → k < countOf image → gatheredIn (length t) (w .area) k ≡ false → slotAt (length t) k (w .area) ≡ replicate slotWords 0
+  unfolding slotOn
+  waiting-slot k l g = slot-on-the-way k l ∙ rw g
+
+  -- While a program waits, the table is the opening table: every gathering runs on it.
+  pub table-on-the-way : (k : ℕ) → k < countOf image → gatheredIn (length t) (w .area) k ≡ false → w .table ≡ t
+  unfolding Phased
+  table-on-the-way k l g =
+      ap (λ (x : World). x .table) is
+      ∙ table-opening (batchOf image t) t (p .settled)
+      (λ j m. reached-phased image history k j l m
+      (sym (gathered-on (batchOf image t) (p .gathered) (p .settled) (length t) fits k l)
+      ∙ (ap (λ (x : World). gatheredIn (length t) (x .area) k) (sym is) ∙ g)))
+
+  -- "and the marks are those of the gathered programs"
+  pub write-marks-on-the-way : words (writeMarks (length t)) (length t) (w .area)
+      ≡ tabulate (writeMark (batchOf image t) (gatheredIn (length t) (w .area))) (length t)
+  write-marks-on-the-way =
+      ap (λ (x : World). words (writeMarks (length t)) (length t) (x .area)) on-the-way ∙ write-marks-on (batchOf image t) _ _ (length t) fits
+
+  pub read-marks-on-the-way : words (readMarks (length t)) (length t) (w .area)
+      ≡ tabulate (readMark (batchOf image t) (gatheredIn (length t) (w .area))) (length t)
+  read-marks-on-the-way =
+      ap (λ (x : World). words (readMarks (length t)) (length t) (x .area)) on-the-way ∙ read-marks-on (batchOf image t) _ _ (length t) fits

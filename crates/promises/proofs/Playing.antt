@@ -1,0 +1,86 @@
+-- A history from an opened batch leaves the world on the way in which the history's sets are gathered and settled. Assumes nothing.
+use mathlib.Core.Path.{_≡_, refl, sym, ap, _∙_}
+use mathlib.Core.List.{List, [], _∷_, _++_}
+use Prim.Native.Nat.{ℕ, zero, suc, _+_, _*_}
+use native.Mathlib.Omega.{arith}
+use lib.ListN.{length, replicate, length-replicate, getD-replicate, replicate-append-replicate}
+use Rattle.base.specs.Words.{tabulate}
+use Rattle.base.proofs.Numbers.{none-first}
+use Rattle.base.proofs.Tables.{tabulate-is}
+use Rattle.image.specs.Image.{countOf}
+use Rattle.slot.specs.Layout.{slotWords}
+use Rattle.area.specs.Layout.{areaWords}
+use Rattle.area.specs.Checks.{openRefusal}
+use Rattle.area.proofs.Checks.{open-shows, room-shows}
+use Rattle.steps.specs.Opening.{openArea}
+use Rattle.promises.specs.Paper.{Batch, batchOf}
+use Rattle.promises.specs.Laid.{World, writeMark, readMark, slotOn, slotsTo, areaOn, tableOn, worldOn}
+use Rattle.promises.specs.History.{Step, gather, settle, after, played, opening, worldAfter}
+use Rattle.promises.proofs.Sets.{nobody}
+use Rattle.promises.proofs.Installing.{table-opening}
+use Rattle.promises.proofs.Stepping.{Opens, opens, Phased, gather-on, settle-table-on, settle-area-on}
+use Rattle.promises.proofs.Progress.{Progress, none-yet, moved, movedBy, none-phased, phased-by}
+
+-- ---- an opened area: nobody is gathered, and all is 0
+
+module _ (b : Batch) where
+  marks-none : (T : ℕ) → (tabulate (writeMark b nobody) T ≡ replicate T 0) × (tabulate (readMark b nobody) T ≡ replicate T 0)
+  unfolding writeMark readMark
+  marks-none T = (zeros (λ c. none-first _ (b .programs) (λ _ _. refl)), zeros (λ c. none-first _ (b .programs) (λ _ _. refl)))
+    where
+      zeros : {f : ℕ → ℕ} → ((c : ℕ) → f c ≡ 0) → tabulate f T ≡ replicate T 0
+      zeros {f} h = sym (tabulate-is f T (replicate T 0) (length-replicate T 0) (λ c l. getD-replicate T c 0 0 l ∙ sym (h c)))
+
+  slots-none : (m : ℕ) → slotsTo b nobody nobody m ≡ replicate (slotWords * m) 0
+  unfolding slotsTo slotOn
+  slots-none zero = refl
+  slots-none (suc m) =
+      let e : slotWords * m + slotWords ≡ slotWords * suc m = omega arith in
+      rw (slots-none m, ← e) (replicate-append-replicate (slotWords * m) slotWords 0)
+
+  area-none : (T : ℕ) → areaOn b nobody nobody T ≡ replicate (areaWords T (b .programs)) 0
+  unfolding areaOn
+  area-none T =
+      let e : T + (T + slotWords * b .programs) ≡ areaWords T (b .programs) = omega arith in
+      rw (marks-none T .0, marks-none T .1, slots-none (b .programs), ← e)
+      (ap (λ (x : List ℕ). replicate T 0 ++ x) (replicate-append-replicate T (slotWords * b .programs) 0)
+      ∙ replicate-append-replicate T (T + slotWords * b .programs) 0)
+
+pub opened-on : (image t found : List ℕ) → openRefusal image t found ≡ 0 → opening image t found ≡ worldOn image t nobody nobody
+unfolding opening openArea
+opened-on image t found e =
+    let r = room-shows (countOf image) t found (open-shows image t found e .1) in
+    rw (e, r .2, area-none (batchOf image t) (length t), table-opening (batchOf image t) t nobody (λ _ _. refl))
+
+-- ---- a history
+
+-- the world that belongs to the two sets
+abbrev pub worldAt : (image t : List ℕ) → Progress → World
+worldAt image t p = worldOn image t (p .gathered) (p .settled)
+
+module _ (image t : List ℕ) (o : Opens image t) where
+  after-on : (s : Step) (p : Progress) → Phased (countOf image) (p .gathered) (p .settled)
+      → after image s (worldAt image t p) ≡ worldAt image t (moved (countOf image) s p)
+  unfolding after
+  after-on (gather k) p f =
+      ap (λ (x : List ℕ). record { table = tableOn (batchOf image t) (p .settled) t; area = x }) (gather-on image t o (p .gathered) (p .settled) k f)
+  after-on (settle k) p f =
+      λ i. record { table = settle-table-on image t o (p .gathered) (p .settled) k i; area = settle-area-on image t o (p .gathered) (p .settled) k i }
+
+  played-on : (h : List Step) (p : Progress) → Phased (countOf image) (p .gathered) (p .settled)
+      → played image h (worldAt image t p) ≡ worldAt image t (movedBy (countOf image) h p)
+  unfolding played
+  played-on [] p f = refl
+  played-on (s ∷ h) p f = rw (after-on s p f) (played-on h (moved (countOf image) s p) (phased-by (countOf image) (s ∷ []) p f))
+
+-- who is gathered and settled after a history from an opened batch
+abbrev pub reached : (image : List ℕ) → List Step → Progress
+reached image h = movedBy (countOf image) h none-yet
+
+pub reached-phased : (image : List ℕ) (h : List Step) → Phased (countOf image) (reached image h .gathered) (reached image h .settled)
+reached-phased image h = phased-by (countOf image) h none-yet (none-phased (countOf image))
+
+pub world-reached : (image t found : List ℕ) → openRefusal image t found ≡ 0 → (h : List Step)
+    → worldAfter image t found h ≡ worldAt image t (reached image h)
+world-reached image t found e h =
+    rw (opened-on image t found e) (played-on image t (opens image t found e) h none-yet (none-phased (countOf image)))

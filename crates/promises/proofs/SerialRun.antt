@@ -1,0 +1,22 @@
+-- The serial run: the programs that commit do what they would have done one after another. Assumes nothing.
+use Prim.Native.Nat.{ℕ}
+use mathlib.Core.Path.{_≡_, sym, _∙_}
+use mathlib.Core.List.{List, map}
+use lib.ListN.{length}
+use Rattle.image.specs.Image.{countOf}
+use Rattle.steps.specs.Gathering.{runAt}
+use Rattle.listing.specs.Listing.{orderOf}
+use Rattle.promises.specs.Laid.{World}
+use Rattle.promises.specs.History.{RunToEnd}
+use Rattle.promises.specs.Serial.{serialRuns, serialTable}
+use Rattle.promises.proofs.AtEnd.{paper-ends, end-order}
+use Rattle.promises.proofs.Replay.{serial-runs, serial-table}
+
+-- "Running the committed programs one after another from the opening table, in the listed order": each run is the very run of its gathering, with the
+-- same answer, reads, stores, path and loaded values, and the last table is the end table.
+pub serial-run : (image t : List ℕ) (w : World) → RunToEnd image t w
+    → (let l = orderOf (length t) (countOf image) (w .area) in
+    (serialRuns image l t ≡ map (runAt image t) l) × (serialTable image l t ≡ w .table))
+serial-run image t w run =
+    let end = paper-ends run in
+    rw (end-order end) (serial-runs image t, serial-table image t ∙ sym (end .table-is))

@@ -1,0 +1,6 @@
+pub mod Paper
+pub mod Laid
+pub mod History
+pub mod Serial
+pub mod Batches
+pub mod Opened

@@ -1,0 +1,97 @@
+-- The paper's batch: source 004, sections 4 and 5, Figures 4 and 7, with document 01's programs. There is no work area in sight. Every program runs once
+-- from the opening table; what a program has against it is asked of every earlier program; those that commit are installed. Assumes nothing.
+use Prim.Native.Nat.{ℕ, zero, suc}
+use mathlib.Core.Bool.{Bool, true, false, not, cond, _&&_}
+use mathlib.Core.List.{List}
+use Rattle.base.specs.Words.{some, meets}
+use Rattle.image.specs.Image.{countOf, secondRule}
+use Rattle.slot.specs.States.{committed, carried}
+use Rattle.slot.specs.Log.{Log}
+use Rattle.machine.specs.declared.Run.{Run}
+use Rattle.machine.specs.declared.Run.the-variants.{Finished, Rejected, Faulted}
+use Rattle.machine.specs.Runs.{Outcome, kept, stateOfRun, detailOfRun}
+use Rattle.area.specs.Marks.{storeAll}
+use Rattle.steps.specs.declared.Reason.{Reason}
+use Rattle.steps.specs.declared.Reason.the-variants.{Waw, Raw, RawWithWar}
+use Rattle.steps.specs.Answers.{reasonNumber}
+use Rattle.steps.specs.Gathering.{runAt}
+
+-- A batch: how many programs, whether Rule 2 is in force, and the run of each program from the opening table. A program's number is its TID.
+pub record Batch : Type 0 where
+  pub programs : ℕ
+  pub second : Bool
+  pub runs : ℕ → Outcome
+
+-- the batch of an image on its opening table
+abbrev pub batchOf : List ℕ → List ℕ → Batch
+batchOf image t = record { programs = countOf image; second = secondRule image; runs = runAt image t }
+
+-- ---- Figure 4, Execute: "Read from the latest snapshot of db. Execute to compute T's read/write set (RS & WS)."
+
+-- a program that rejects or faults has neither: it "stores nothing, reserves nothing and is not carried"
+abbrev pub logOf : Batch → ℕ → Log
+logOf b k = kept (b .runs k .answer) (b .runs k .log)
+
+abbrev pub readSet : Batch → ℕ → List ℕ
+readSet b k = logOf b k .reads
+
+abbrev pub writeSet : Batch → ℕ → List ℕ
+writeSet b k = logOf b k .cells
+
+abbrev pub written : Batch → ℕ → List ℕ
+written b k = logOf b k .values
+
+abbrev pub finishes : Run → Bool
+finishes Finished = true
+finishes (Rejected code) = false
+finishes (Faulted kind at) = false
+
+abbrev pub finished : Batch → ℕ → Bool
+finished b k = finishes (b .runs k .answer)
+
+-- ---- Figure 7, lines 12 to 14: a dependency on an earlier program, one with a smaller TID
+
+unfoldable pub waw : Batch → ℕ → Bool
+waw b k = some k (λ j. meets (writeSet b k) (writeSet b j))
+
+unfoldable pub war : Batch → ℕ → Bool
+war b k = some k (λ j. meets (writeSet b k) (readSet b j))
+
+unfoldable pub raw : Batch → ℕ → Bool
+raw b k = some k (λ j. meets (readSet b k) (writeSet b j))
+
+-- ---- who commits
+
+-- "Rule 1. A transaction commits if it has no WAW-dependencies or RAW-dependencies on any earlier transaction."
+abbrev pub rule1 : (waw raw : Bool) → Bool
+rule1 waw raw = not waw && not raw
+
+-- "Rule 2. A transaction commits if two conditions are met: (1) it has no WAW-dependencies on any earlier transaction, and (2) it does not have both
+-- WAR-dependencies and RAW-dependencies on earlier transactions with smaller TIDs."
+abbrev pub rule2 : (waw raw war : Bool) → Bool
+rule2 waw raw war = not waw && not (war && raw)
+
+unfoldable pub commits : Batch → ℕ → Bool
+commits b k = finished b k && cond (b .second) (rule2 (waw b k) (raw b k) (war b k)) (rule1 (waw b k) (raw b k))
+
+-- document 01: "carried for one reason out of three: 1 WAW, looked at first; 2 RAW (Rule 1); 3 RAW with WAR (Rule 2)"
+unfoldable pub reason : Batch → ℕ → Reason
+reason b k = cond (waw b k) Waw (cond (b .second) RawWithWar Raw)
+
+-- how program k ends, in document 01's numbers: committed, carried, rejected or faulted, and the detail
+unfoldable pub stateAfter : Batch → ℕ → ℕ
+stateAfter b k = cond (finished b k) (cond (commits b k) committed carried) (stateOfRun (b .runs k .answer))
+
+unfoldable pub detailAfter : Batch → ℕ → ℕ
+detailAfter b k = cond (finished b k) (cond (commits b k) 0 (reasonNumber (reason b k))) (detailOfRun (b .runs k .answer))
+
+-- ---- Figure 4, Install: "for each key in T.WS: write(key, db)"
+
+-- the table after those of the first k programs that pass have been installed
+unfoldable pub installed : Batch → (ℕ → Bool) → ℕ → List ℕ → List ℕ
+installed b test zero t = t
+installed b test (suc k) t = cond (test k) (storeAll (writeSet b k) (written b k) (installed b test k t)) (installed b test k t)
+
+-- the table afterwards
+unfoldable pub tableAfter : Batch → List ℕ → List ℕ
+tableAfter b t = installed b (commits b) (b .programs) t
