@@ -1,6 +1,6 @@
 -- What each change of the area does to the write marks, the read marks and the slots: what was put there is read back, the rest stays.
 -- Assumes nothing.
-use Prim.Native.Nat.{ℕ, zero, suc, _+_, _*_, _-_, _≤_, _<_}
+use Prim.Native.Nat.{ℕ, _+_, _-_, _≤_, _<_}
 use mathlib.Core.Path.{_≡_, refl, sym, ap, _∙_}
 use mathlib.Core.Logic.{_⊎_, inl, inr}
 use mathlib.Core.Bool.{true}
@@ -13,7 +13,7 @@ use Rattle.base.specs.Words.{has, words}
 use Rattle.base.proofs.Members.{has-head, has-tail}
 use Rattle.base.proofs.Parts.{words-at, words-same, words-set-in, words-set-out, words-between}
 use Rattle.slot.specs.Layout.{stateWord, detailWord, slotWords}
-use Rattle.area.specs.Layout.{areaWords, writeMarks, readMarks, firstSlot, slotStart, stateAt, detailAt, stateOf, detailOf, slotAt, withSlot, withState}
+use Rattle.area.specs.Layout.{areaWords, writeMarks, readMarks, slotStart, stateAt, detailAt, stateOf, detailOf, slotAt, withSlot, withState}
 use Rattle.area.specs.Marks.{markOf, lower, reserve}
 
 -- two slots do not overlap
@@ -57,7 +57,8 @@ module _ (T n k : ℕ) (s a : List ℕ) (full : length s ≡ slotWords) (sized :
       ∙ (getD-append-add s (drop (slotStart T k + slotWords) a) r 0
       ∙ (getD-drop (slotStart T k + slotWords) a r 0 ∙ ap (λ (x : ℕ). getD a x 0) back)))
 
-  slot-elsewhere : (p m : ℕ) → p + m ≤ areaWords T n → (p + m ≤ slotStart T k) ⊎ (slotStart T k + slotWords ≤ p) → words p m (withSlot T k s a) ≡ words p m a
+  slot-elsewhere : (p m : ℕ) → p + m ≤ areaWords T n → (p + m ≤ slotStart T k) ⊎ (slotStart T k + slotWords ≤ p)
+      → words p m (withSlot T k s a) ≡ words p m a
   slot-elsewhere p m h out = words-same p m (withSlot T k s a) a (omega (arith, slot-length)) (omega arith) (λ i b. go out i b)
     where
       go : (p + m ≤ slotStart T k) ⊎ (slotStart T k + slotWords ≤ p) → (i : ℕ) → i < m → getD (withSlot T k s a) (p + i) 0 ≡ getD a (p + i) 0
@@ -105,7 +106,8 @@ module _ (T k state detail : ℕ) (a : List ℕ) where
       words-set-out p m (detailAt T k) detail (set a (stateAt T k) state) (past detailWord (omega arith) (detailAt T k) refl out)
       ∙ words-set-out p m (stateAt T k) state a (past stateWord (omega arith) (stateAt T k) (omega arith) out)
     where
-      past : (i : ℕ) → i < slotWords → (x : ℕ) → x ≡ slotStart T k + i → (p + m ≤ slotStart T k) ⊎ (slotStart T k + slotWords ≤ p) → (x < p) ⊎ (p + m ≤ x)
+      past : (i : ℕ) → i < slotWords → (x : ℕ) → x ≡ slotStart T k + i → (p + m ≤ slotStart T k) ⊎ (slotStart T k + slotWords ≤ p)
+          → (x < p) ⊎ (p + m ≤ x)
       past i h x e (inl q) = inr (omega arith)
       past i h x e (inr q) = inl (omega arith)
 
@@ -127,7 +129,8 @@ reserve-length at k [] a = refl
 reserve-length at k (c ∷ cs) a = reserve-length at k cs _ ∙ length-set a (at + c) _
 
 -- in the marks that they are made in, which begin at the place
-pub reserve-inside : (at T k : ℕ) (cs a : List ℕ) → ((c : ℕ) → has c cs ≡ true → c < T) → words at T (reserve at cs k a) ≡ reserve 0 cs k (words at T a)
+pub reserve-inside : (at T k : ℕ) (cs a : List ℕ) → ((c : ℕ) → has c cs ≡ true → c < T)
+    → words at T (reserve at cs k a) ≡ reserve 0 cs k (words at T a)
 unfolding reserve
 reserve-inside at T k [] a f = refl
 reserve-inside at T k (c ∷ cs) a f =

@@ -1,13 +1,13 @@
 -- Checks 1 to 7: which refusal each finding earns, and what an area that passes has, in plain facts. Assumes nothing.
-use Prim.Native.Nat.{ℕ, _+_, _*_, _≤_, _<_}
-use mathlib.Core.Path.{_≡_, refl, sym, ap, _∙_}
+use Prim.Native.Nat.{ℕ, _+_, _≤_, _<_}
+use mathlib.Core.Path.{_≡_, refl, _∙_}
 use mathlib.Core.Bool.{Bool, true, false, cond, _&&_, false≢true}
 use mathlib.Core.List.{List}
 use native.Mathlib.Omega.{arith}
 use lib.ListN.{length, getD}
-use lib.Dec.{eqb, ltb, leb}
+use lib.Dec.{ltb, leb}
 use borrow.Author.Tests.{lt-ltb, le-leb, lt-leb, eq-eqb, ne-eqb, ltb-true, leb-true, eqb-true}
-use Rattle.base.specs.Words.{has, every, unless}
+use Rattle.base.specs.Words.{has}
 use Rattle.base.proofs.Bools.{and-left, and-right, both-and, and-false}
 use Rattle.base.proofs.Calls.{unless-refused, unless-none}
 use Rattle.base.proofs.Numbers.{every-at, every-from}
@@ -18,8 +18,10 @@ use Rattle.image.specs.Image.{countOf, refusalOf}
 use Rattle.image.proofs.Laws.{accepted, few-programs}
 use Rattle.slot.specs.States.{lastState}
 use Rattle.slot.specs.Layout.{stateWord, readCount, storeCount, listWords, firstRead, firstStore, slotWords}
-use Rattle.area.specs.Layout.{areaWords, writeMarks, readMarks, slotStart, stateAt, readCountAt, storeCountAt, readsAt, storesAt, slotAt, readsOf, storesOf}
-use Rattle.area.specs.Checks.{tableGood, sizeIs, marksGood, cellsGood, stateGood, readCountGood, storeCountGood, slotGood, slotsGood, wordsGood, roomRefusal, areaRefusal, openRefusal, callRefusal, Checked, Slotted}
+use Rattle.area.specs.Layout.{areaWords, writeMarks, readMarks, slotStart, stateAt, readCountAt, storeCountAt, readsAt, storesAt}
+use Rattle.area.specs.Layout.{slotAt, readsOf, storesOf}
+use Rattle.area.specs.Checks.{tableGood, sizeIs, marksGood, cellsGood, stateGood, readCountGood, storeCountGood, slotGood, slotsGood}
+use Rattle.area.specs.Checks.{wordsGood, roomRefusal, areaRefusal, openRefusal, callRefusal, Checked, Slotted}
 use Rattle.area.proofs.Views.{slot-word}
 
 -- ---- checks 5 and 6

@@ -1,12 +1,12 @@
 -- Each change keeps what check 7 asks, and with it all that the checks 1 to 7 have shown: a whole batch has to check once. Assumes nothing.
-use Prim.Native.Nat.{ℕ, zero, suc, _+_, _*_, _≤_, _<_}
-use mathlib.Core.Path.{_≡_, refl, sym, ap, subst, _∙_}
+use Prim.Native.Nat.{ℕ, _+_, _≤_, _<_}
+use mathlib.Core.Path.{_≡_, sym, subst, _∙_}
 use mathlib.Core.Logic.{_⊎_, inl, inr}
-use mathlib.Core.Bool.{Bool, true, false, cond, _||_}
+use mathlib.Core.Bool.{true, false, cond, _||_}
 use mathlib.Core.List.{List, [], _∷_}
 use native.Mathlib.Omega.{arith}
 use native.Mathlib.Decide.{decLt, ℕ-discrete}
-use lib.ListN.{length, getD, set, replicate, length-set, length-replicate}
+use lib.ListN.{length, getD, set, replicate, length-replicate}
 use lib.Dec.{eqb, ltb}
 use lib.Seq.{getD-set-same, getD-set-other, set-out}
 use borrow.Author.Tests.{ltb-false}
@@ -19,15 +19,17 @@ use Rattle.slot.specs.Layout.{stateWord, detailWord, readCount, storeCount, fir
 use Rattle.slot.proofs.Slots.{zeros-at}
 use Rattle.area.specs.Layout.{areaWords, writeMarks, readMarks, slotStart, slotAt, withSlot, withState}
 use Rattle.area.specs.Marks.{markOf, lower, reserve}
-use Rattle.area.specs.Checks.{wordsGood, openRefusal, Checked}
+use Rattle.area.specs.Checks.{openRefusal, Checked}
 use Rattle.area.proofs.Views.{slot-word, slot-sized}
-use Rattle.area.proofs.Changes.{slot-own, slot-other, slot-write-marks, slot-read-marks, state-own, state-other, state-write-marks, state-read-marks, writes-slot, reads-slot}
+use Rattle.area.proofs.Changes.{slot-own, slot-other, slot-write-marks, slot-read-marks, state-own, state-other, state-write-marks}
+use Rattle.area.proofs.Changes.{state-read-marks, writes-slot, reads-slot}
 use Rattle.area.proofs.Checks.{SlotPassed, Passed, passed-good, room-shows, open-shows, few}
 
 same-passed : (T : ℕ) (s s′ : List ℕ) → s′ ≡ s → SlotPassed T s → SlotPassed T s′
 same-passed T s s′ e p = subst (λ (x : List ℕ). SlotPassed T x) (sym e) p
 
-same-few : (p T n : ℕ) (a b : List ℕ) → words p T b ≡ words p T a → ((c : ℕ) → c < T → getD a (p + c) 0 ≤ n) → (c : ℕ) → c < T → getD b (p + c) 0 ≤ n
+same-few : (p T n : ℕ) (a b : List ℕ) → words p T b ≡ words p T a → ((c : ℕ) → c < T → getD a (p + c) 0 ≤ n) → (c : ℕ) → c < T
+    → getD b (p + c) 0 ≤ n
 same-few p T n a b e h c l = omega (arith, words-agree p T b a e c l, h c l)
 
 -- the slots where only slot k changes
@@ -41,7 +43,8 @@ one-slot T n k a b own other slots j l = go (ℕ-discrete j k)
 
 -- ---- a slot that is put in
 
-pub slot-keeps : (T n k : ℕ) (s a : List ℕ) → length s ≡ slotWords → length a ≡ areaWords T n → k < n → SlotPassed T s → Passed T n a → Passed T n (withSlot T k s a)
+pub slot-keeps : (T n k : ℕ) (s a : List ℕ) → length s ≡ slotWords → length a ≡ areaWords T n → k < n → SlotPassed T s → Passed T n a
+    → Passed T n (withSlot T k s a)
 slot-keeps T n k s a full sized l g p =
     record {
       write-marks = same-few (writeMarks T) T n a (withSlot T k s a) (slot-write-marks T n k s a full sized l) (p .write-marks);
@@ -53,7 +56,8 @@ slot-keeps T n k s a full sized l g p =
 
 -- ---- a state and a detail
 
-state-passed : (T state detail : ℕ) (s : List ℕ) → length s ≡ slotWords → state ≤ lastState → SlotPassed T s → SlotPassed T (set (set s stateWord state) detailWord detail)
+state-passed : (T state detail : ℕ) (s : List ℕ) → length s ≡ slotWords → state ≤ lastState → SlotPassed T s
+    → SlotPassed T (set (set s stateWord state) detailWord detail)
 state-passed T state detail s full few p =
     record {
       state-few =
@@ -72,7 +76,8 @@ state-passed T state detail s full few p =
     after i h =
         getD-set-other (set s stateWord state) detailWord i detail 0 (λ e. omega arith) ∙ getD-set-other s stateWord i state 0 (λ e. omega arith)
 
-pub state-keeps : (T n k state detail : ℕ) (a : List ℕ) → length a ≡ areaWords T n → k < n → state ≤ lastState → Passed T n a → Passed T n (withState T k state detail a)
+pub state-keeps : (T n k state detail : ℕ) (a : List ℕ) → length a ≡ areaWords T n → k < n → state ≤ lastState → Passed T n a
+    → Passed T n (withState T k state detail a)
 state-keeps T n k state detail a sized l few p =
     let full : length (slotAt T k a) ≡ slotWords = slot-sized T k a (omega arith) in
     let own : SlotPassed T (slotAt T k (withState T k state detail a)) =

@@ -1,7 +1,7 @@
 -- The loops over a slot's lists: what is left to do, done on what is there, is the whole. Assumes nothing.
 use Prim.Native.Nat.{ℕ, _+_, _≤_, _<_}
 use mathlib.Core.Path.{_≡_, refl, sym, ap, _∙_}
-use mathlib.Core.Bool.{Bool, true, false, _||_}
+use mathlib.Core.Bool.{true, false, _||_}
 use mathlib.Core.List.{List, [], _∷_}
 use native.Mathlib.Omega.{arith}
 use native.Mathlib.Numerals.{add-one}
@@ -83,13 +83,15 @@ module _ (marks at count k : ℕ) (a : List ℕ) (names : Names marks at count a
 -- ---- a loop that stores
 
 module _ (cells values count : ℕ) (a t₀ : List ℕ) (s : Stores cells values count a t₀) (i : ℕ) (t : List ℕ)
-    (left : storeAll (drop i (words cells count a)) (drop i (words values count a)) t ≡ storeAll (words cells count a) (words values count a) t₀) where
+    (left : storeAll (drop i (words cells count a)) (drop i (words values count a)) t
+    ≡ storeAll (words cells count a) (words values count a) t₀) where
   pub storing-next : i < count
       → storeAll (drop (i + 1) (words cells count a)) (drop (i + 1) (words values count a)) (set t (getD a (cells + i) 0) (getD a (values + i) 0))
       ≡ storeAll (words cells count a) (words values count a) t₀
   unfolding storeAll
   storing-next h =
-      ap (λ (x : List ℕ). storeAll x (getD a (values + i) 0 ∷ drop (i + 1) (words values count a)) t) (sym (left-next cells count a (s .cells-lie) i h))
+      ap (λ (x : List ℕ). storeAll x (getD a (values + i) 0 ∷ drop (i + 1) (words values count a)) t)
+      (sym (left-next cells count a (s .cells-lie) i h))
       ∙ (ap (λ (x : List ℕ). storeAll (drop i (words cells count a)) x t) (sym (left-next values count a (s .values-lie) i h)) ∙ left)
 
   pub storing-end : i ≤ count → count ≤ i → t ≡ storeAll (words cells count a) (words values count a) t₀

@@ -1,6 +1,6 @@
 -- A program's slot, as the code finds it: r is where it begins. Assumes nothing.
-use Prim.Native.Nat.{ℕ, _+_, _*_, _≤_, _<_}
-use mathlib.Core.Path.{_≡_, refl, sym, ap, subst, _∙_}
+use Prim.Native.Nat.{ℕ, _+_, _≤_}
+use mathlib.Core.Path.{_≡_, sym, ap, subst, _∙_}
 use mathlib.Core.Bool.{Bool, false, cond}
 use mathlib.Core.List.{List}
 use native.Mathlib.Omega.{arith}
@@ -8,7 +8,7 @@ use lib.ListN.{length, getD}
 use lib.Dec.{leb}
 use Rattle.base.specs.Words.{words}
 use Rattle.slot.specs.States.{lastState}
-use Rattle.slot.specs.Layout.{readCount, storeCount, listWords, firstRead, firstStore, firstValue, slotWords}
+use Rattle.slot.specs.Layout.{readCount, storeCount, listWords, firstRead, firstStore, firstValue}
 use Rattle.area.specs.Layout.{firstSlot, slotStart, readsOf, storesOf, valuesOf}
 use Rattle.area.specs.Marks.{storeAll}
 use Rattle.area.specs.Checks.{cellsGood, slotGood, Slotted, Names, Stores}

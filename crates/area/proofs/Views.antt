@@ -1,6 +1,6 @@
 -- The area read as write marks, read marks and slots: together they are the whole, and everything about a program stands in its slot.
 -- Assumes nothing.
-use Prim.Native.Nat.{ℕ, zero, suc, _+_, _*_, _-_, _≤_, _<_}
+use Prim.Native.Nat.{ℕ, zero, suc, _+_, _-_, _≤_, _<_}
 use mathlib.Core.Path.{_≡_, refl, sym, ap, _∙_}
 use mathlib.Core.Bool.{Bool, true, _||_}
 use mathlib.Core.List.{List, [], _∷_}
@@ -12,8 +12,9 @@ use Rattle.base.specs.Words.{has, words}
 use Rattle.base.proofs.Members.{has-head, has-tail}
 use Rattle.base.proofs.Parts.{words-length, words-at, words-agree, words-in}
 use Rattle.slot.specs.Layout.{stateWord, detailWord, readCount, storeCount, listWords, firstRead, firstStore, firstValue, slotWords}
-use Rattle.slot.specs.Log.{Log, logOf}
-use Rattle.area.specs.Layout.{areaWords, writeMarks, readMarks, firstSlot, slotStart, stateAt, readCountAt, storeCountAt, stateOf, detailOf, slotAt, readsOf, storesOf, valuesOf}
+use Rattle.slot.specs.Log.{logOf}
+use Rattle.area.specs.Layout.{areaWords, writeMarks, readMarks, firstSlot, slotStart, stateAt, readCountAt, storeCountAt, stateOf}
+use Rattle.area.specs.Layout.{detailOf, slotAt, readsOf, storesOf, valuesOf}
 use Rattle.area.specs.Marks.{earlier, hit, waw, raw, war}
 
 -- ---- marks and slots are the whole area
@@ -24,7 +25,8 @@ in-slot : (T n i : ℕ) → firstSlot T ≤ i → i < areaWords T n
 in-slot T zero i h l = absurd (omega arith)
 in-slot T (suc n) i h l = go (decLt i (slotStart T n)) (in-slot T n i h)
   where
-    go : Dec (i < slotStart T n) → (i < areaWords T n → (k : ℕ) × (k < n) × (i - slotStart T k < slotWords) × (slotStart T k + (i - slotStart T k) ≡ i))
+    go : Dec (i < slotStart T n)
+        → (i < areaWords T n → (k : ℕ) × (k < n) × (i - slotStart T k < slotWords) × (slotStart T k + (i - slotStart T k) ≡ i))
         → (k : ℕ) × (k < suc n) × (i - slotStart T k < slotWords) × (slotStart T k + (i - slotStart T k) ≡ i)
     go (yes p) f = let w = f p in (w .0, omega (arith, w .1), w .2, w .3)
     go (no p) f = (n, omega arith, omega arith, omega arith)
@@ -72,7 +74,8 @@ module _ (T k : ℕ) (a : List ℕ) where
   store-count = sym (slot-word T k a storeCount (omega arith))
 
   -- a list of the slot, of as many words as there is room for
-  list-in-slot : (at count n : ℕ) → at + listWords ≤ slotWords → count ≤ listWords → count ≡ n → words (slotStart T k + at) count a ≡ words at n (slotAt T k a)
+  list-in-slot : (at count n : ℕ) → at + listWords ≤ slotWords → count ≤ listWords → count ≡ n
+      → words (slotStart T k + at) count a ≡ words at n (slotAt T k a)
   unfolding slotAt
   list-in-slot at count n room few e =
       sym (words-in (slotStart T k) slotWords at count a (omega arith)) ∙ ap (λ (m : ℕ). words at m (words (slotStart T k) slotWords a)) e

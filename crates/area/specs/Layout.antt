@@ -1,8 +1,6 @@
 -- Document 01, "The work area": where each word of the area lies. "It has 2T + 100n words of 32 bits. First T write marks, then T read marks .. Then a
 -- slot of 100 words per program." The words inside a slot are named in the crate `slot`. Assumes nothing.
-use Prim.Native.Nat.{ℕ, _+_, _*_, _<_}
-use mathlib.Core.Path.{_≡_}
-use mathlib.Core.Logic.{_⊎_}
+use Prim.Native.Nat.{ℕ, _+_, _*_}
 use mathlib.Core.List.{List, _++_}
 use lib.ListN.{getD, set, take, drop}
 use Rattle.base.specs.Words.{words}
@@ -47,10 +45,6 @@ storesAt T k = slotStart T k + firstStore
 
 abbrev pub valuesAt : ℕ → ℕ → ℕ
 valuesAt T k = slotStart T k + firstValue
-
--- the place is that of a cell's mark
-abbrev pub IsMark : ℕ → ℕ → Type 0
-IsMark T j = (c : ℕ) × ((c < T) × ((j ≡ writeMarks T + c) ⊎ (j ≡ readMarks T + c)))
 
 -- ---- what stands there
 

@@ -1,7 +1,7 @@
 -- The numbers of an answer are the two words of the slot that the call leaves; on a refusal they are its number and 0, and nothing is changed.
 -- Assumes nothing.
-use Prim.Native.Nat.{ℕ, _+_, _*_, _≤_, _<_}
-use mathlib.Core.Path.{_≡_, refl, sym, ap, _∙_}
+use Prim.Native.Nat.{ℕ, _+_, _≤_, _<_}
+use mathlib.Core.Path.{_≡_, refl, ap, _∙_}
 use mathlib.Core.Bool.{Bool, true, false}
 use mathlib.Core.List.{List}
 use native.Mathlib.Omega.{arith}
@@ -13,15 +13,17 @@ use Rattle.slot.specs.Layout.{stateWord, detailWord, slotWords}
 use Rattle.machine.specs.Runs.{stateOfRun, detailOfRun}
 use Rattle.machine.proofs.Laws.{part-runnable, slot-of-state, slot-of-detail}
 use Rattle.area.specs.Layout.{slotStart, stateOf, detailOf}
-use Rattle.area.specs.Checks.{Checked}
+use Rattle.area.specs.Checks.{openRefusal, Checked}
 use Rattle.area.proofs.Views.{state-in-slot, detail-in-slot}
 use Rattle.area.proofs.Changes.{state-back, detail-back}
 use Rattle.steps.specs.declared.Gathered.the-variants as gathering
 use Rattle.steps.specs.declared.Settled.{Settled}
 use Rattle.steps.specs.declared.Settled.the-variants as settling
 use Rattle.steps.specs.Answers.{Numbers, refusedBy, doneWith, numbersOfGathered, numbersOfSettled}
+use Rattle.steps.specs.Opening.{cleared, openArea}
 use Rattle.steps.specs.Gathering.{gatherRefusal, runAt, gatheredArea, gatherAnswer, gatherArea}
-use Rattle.steps.specs.Settling.{settleRefusal, byRule1, byRule2, decided, verdict, settledTable, settledArea, settleAnswer, settleTable, settleArea}
+use Rattle.steps.specs.Settling.{settleRefusal, byRule1, byRule2, decided, verdict, settledTable, settledArea, settleAnswer}
+use Rattle.steps.specs.Settling.{settleTable, settleArea}
 use Rattle.steps.proofs.Refusals.{gather-shows, settle-shows}
 use Rattle.steps.proofs.Views.{gathered-own}
 
@@ -32,10 +34,22 @@ wordsOf T k a = doneWith (stateOf T k a) (detailOf T k a)
 same-numbers : (x : Numbers) (state detail : ℕ) → x .refusal ≡ 0 → state ≡ x .state → detail ≡ x .detail → x ≡ doneWith state detail
 same-numbers x state detail e f g = rw (f, g) (ap (λ (r : ℕ). record { refusal = r; state = x .state; detail = x .detail }) e)
 
+-- ---- opening
+
+module _ (image t a : List ℕ) where
+  pub open-zeros : openRefusal image t a ≡ 0 → openArea image t a ≡ cleared a
+  unfolding openArea
+  open-zeros e = rw e
+
+  pub open-nothing : (openRefusal image t a ≡ 0 → ⊥) → openArea image t a ≡ a
+  unfolding openArea
+  open-nothing h = unless-refused (openRefusal image t a) (λ r. a) (cleared a) h
+
 -- ---- gathering
 
 module _ (image t a : List ℕ) (k : ℕ) where
-  left-words : Checked image t a → k < countOf image → doneWith (stateOfRun (runAt image t k .answer)) (detailOfRun (runAt image t k .answer)) ≡ wordsOf (length t) k (gatheredArea image t k a)
+  left-words : Checked image t a → k < countOf image
+      → doneWith (stateOfRun (runAt image t k .answer)) (detailOfRun (runAt image t k .answer)) ≡ wordsOf (length t) k (gatheredArea image t k a)
   left-words c h =
       let p : List ℕ = partOf image k in
       let short = part-runnable image (c .accepted) k h .short in
@@ -52,7 +66,8 @@ module _ (image t a : List ℕ) (k : ℕ) where
       → (numbersOfGathered (gatherAnswer image t a k) ≡ refusedBy (gatherRefusal image t a k)) × (gatherArea image t a k ≡ a)
   unfolding gatherAnswer gatherArea
   gather-nothing h = (
-    ap numbersOfGathered (unless-refused (gatherRefusal image t a k) (λ r. gathering.Refused (refusing r)) (gathering.Ran (runAt image t k .answer)) h),
+    ap numbersOfGathered (unless-refused (gatherRefusal image t a k) (λ r. gathering.Refused (refusing r))
+        (gathering.Ran (runAt image t k .answer)) h),
     unless-refused (gatherRefusal image t a k) (λ r. a) (gatheredArea image t k a) h,
   )
 
@@ -89,7 +104,8 @@ module _ (image t a : List ℕ) (k : ℕ) where
       rw e (settled-words (w .0) (w .1) (verdict image (length t) k a) (decided-done _ _ _ _))
 
   pub settle-nothing : (settleRefusal image t a k ≡ 0 → ⊥)
-      → (numbersOfSettled (settleAnswer image t a k) ≡ refusedBy (settleRefusal image t a k)) × (settleTable image t a k ≡ t) × (settleArea image t a k ≡ a)
+      → (numbersOfSettled (settleAnswer image t a k) ≡ refusedBy (settleRefusal image t a k))
+      × (settleTable image t a k ≡ t) × (settleArea image t a k ≡ a)
   unfolding settleAnswer settleTable settleArea
   settle-nothing h =
       let v : Settled = verdict image (length t) k a in (

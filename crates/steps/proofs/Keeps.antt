@@ -1,6 +1,6 @@
 -- Each step keeps what the checks 1 to 7 have shown, opening makes it: a whole batch has to check once. Assumes nothing.
-use Prim.Native.Nat.{ℕ, zero, suc, _+_, _*_, _≤_, _<_}
-use mathlib.Core.Path.{_≡_, refl, sym, ap, _∙_}
+use Prim.Native.Nat.{ℕ, zero, suc, _≤_, _<_}
+use mathlib.Core.Path.{_≡_, refl}
 use mathlib.Core.List.{List}
 use native.Mathlib.Omega.{arith}
 use lib.ListN.{length}
@@ -9,18 +9,18 @@ use Rattle.image.specs.Limits.{maxProgramBytes}
 use Rattle.image.specs.Image.{countOf, partOf}
 use Rattle.slot.specs.States.{lastState}
 use Rattle.machine.proofs.Laws.{part-runnable}
-use Rattle.area.specs.Layout.{withState}
 use Rattle.area.specs.Checks.{openRefusal, Checked}
 use Rattle.area.proofs.Checks.{Passed, checked-passed}
 use Rattle.area.proofs.Keeps.{state-keeps, checked-area, checked-table, checked-open}
 use Rattle.steps.specs.declared.Settled.{Settled}
 use Rattle.steps.specs.declared.Settled.the-variants.{Refused, Committed, Carried}
 use Rattle.steps.specs.Answers.{numbersOfSettled}
-use Rattle.steps.specs.Opening.{cleared, openArea}
+use Rattle.steps.specs.Opening.{openArea}
 use Rattle.steps.specs.Gathering.{gatherRefusal, runAt, gatheredArea, gatherArea}
 use Rattle.steps.specs.Settling.{settleRefusal, verdict, settledTable, settledArea, settleTable, settleArea}
 use Rattle.steps.proofs.Refusals.{gather-shows, settle-shows}
-use Rattle.steps.proofs.Views.{placed, placed-length, placed-passed, written, written-length, written-passed, gathered-length, gathered-passed, settled-length, table-length}
+use Rattle.steps.proofs.Views.{placed, placed-length, placed-passed, written, written-length, written-passed, gathered-length}
+use Rattle.steps.proofs.Views.{gathered-passed, settled-length, table-length}
 
 -- ---- the steps where the checks have been made
 
@@ -52,7 +52,8 @@ module _ (image t a : List ℕ) (k : ℕ) (c : Checked image t a) (h : k < count
   settled-passed : (v : Settled) → Passed (length t) (countOf image) (settledArea v (length t) k a)
   unfolding settledArea
   settled-passed v =
-      state-keeps (length t) (countOf image) k (numbersOfSettled v .state) (numbersOfSettled v .detail) a (c .sized) h (settled-few v) (checked-passed image t a c)
+      state-keeps (length t) (countOf image) k (numbersOfSettled v .state) (numbersOfSettled v .detail) a (c .sized) h (settled-few v)
+      (checked-passed image t a c)
 
   pub settled-checked : (v : Settled) → Checked image (settledTable v k a t) (settledArea v (length t) k a)
   settled-checked v =

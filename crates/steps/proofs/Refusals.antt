@@ -1,13 +1,12 @@
 -- Checks 1 to 9 of a step: which refusal each finding earns, and what no refusal shows. Assumes nothing.
 use Prim.Native.Nat.{ℕ, _≤_, _<_}
 use mathlib.Core.Path.{_≡_, refl}
-use mathlib.Core.Bool.{Bool, true, false, cond, _&&_}
+use mathlib.Core.Bool.{Bool, true, false, cond}
 use mathlib.Core.List.{List}
 use native.Mathlib.Omega.{arith}
 use lib.ListN.{length}
 use lib.Dec.{eqb, ltb}
 use borrow.Author.Tests.{ltb-true, lt-ltb, le-ltb, eq-eqb, ne-eqb}
-use Rattle.base.specs.Words.{unless}
 use Rattle.base.proofs.Bools.{both-and, and-false}
 use Rattle.base.proofs.Calls.{unless-refused, unless-none}
 use Rattle.image.specs.Refusals.{noSuchProgram, wrongState}

@@ -1,6 +1,6 @@
 -- What the calls say, from what their parts did. Assumes nothing.
 use Prim.Native.Nat.{ℕ, _<_}
-use mathlib.Core.Path.{_≡_, refl, sym, ap, subst, _∙_}
+use mathlib.Core.Path.{_≡_, sym, ap, subst, _∙_}
 use mathlib.Core.Bool.{Bool}
 use mathlib.Core.List.{List}
 use lib.ListN.{length}
@@ -18,9 +18,11 @@ use Rattle.steps.specs.declared.Settled.{Settled}
 use Rattle.steps.specs.declared.Settled.the-variants as settling
 use Rattle.steps.specs.Answers.{numbersOfSettled}
 use Rattle.steps.specs.Opening.{cleared, openArea, OpenSays}
-use Rattle.steps.specs.Gathering.{gatherRefusal, runAt, reserved, gatheredBy, gatheredArea, gatherAnswer, gatherArea, GatherSays, Gathers, RunsInto}
-use Rattle.steps.specs.Settling.{settleRefusal, decided, verdict, settledTable, settledArea, settleAnswer, settleTable, settleArea, SettleSays, Settles}
-use Rattle.steps.proofs.Views.{keptBy, placed, written, placed-stores, written-reads}
+use Rattle.steps.specs.Gathering.{gatherRefusal, runAt, reserved, gatheredBy, gatheredArea, gatherAnswer, gatherArea, GatherSays}
+use Rattle.steps.specs.Gathering.{Gathers, RunsInto}
+use Rattle.steps.specs.Settling.{settleRefusal, decided, verdict, settledTable, settledArea, settleAnswer, settleTable, settleArea}
+use Rattle.steps.specs.Settling.{SettleSays, Settles}
+use Rattle.steps.proofs.Views.{placed, written, placed-stores, written-reads}
 use Rattle.steps.proofs.Keeps.{placed-checked, written-checked}
 
 -- ---- opening
@@ -110,13 +112,14 @@ module _ (image t a : List ℕ) (k r : ℕ) (e : r ≡ settleRefusal image t a k
       let z : settleRefusal image t a k ≡ 0 = sym e ∙ h in
       record { answer = rw z (w .answer); table = rw z (w .table); area = rw z (w .area) }
 
-pub judged : (image a : List ℕ) (T k : ℕ) (s w r x : Bool) (v : Settled) → v ≡ decided s w r x → s ≡ secondRule image → w ≡ waw T k a → r ≡ raw T k a
-    → x ≡ war T k a → v ≡ verdict image T k a
+pub judged : (image a : List ℕ) (T k : ℕ) (s w r x : Bool) (v : Settled) → v ≡ decided s w r x → s ≡ secondRule image
+    → w ≡ waw T k a → r ≡ raw T k a → x ≡ war T k a → v ≡ verdict image T k a
 unfolding verdict
 judged image a T k s w r x v e f g h i = rw (← f, ← g, ← h, ← i) e
 
 pub after-settling : (image t a : List ℕ) (k : ℕ) (v : Settled) (t′ a′ : List ℕ) (state detail : ℕ) → v ≡ verdict image (length t) k a
-    → t′ ≡ settledTable v k a t → a′ ≡ withState (length t) k state detail a → state ≡ numbersOfSettled v .state → detail ≡ numbersOfSettled v .detail
+    → t′ ≡ settledTable v k a t → a′ ≡ withState (length t) k state detail a → state ≡ numbersOfSettled v .state
+    → detail ≡ numbersOfSettled v .detail
     → Settles image t a k v t′ a′
 unfolding settledArea
 after-settling image t a k v t′ a′ state detail e f g h i =

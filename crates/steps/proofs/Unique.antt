@@ -1,6 +1,5 @@
 -- No second result: for each call, two outcomes that meet its contract at the same arguments look the same, the lent words at the exit included.
 -- Assumes nothing.
-use mathlib.Core.Path.{_≡_}
 use mathlib.Core.List.{List}
 use Prim.Native.Nat.{ℕ}
 use denote.Ref.{now}
@@ -26,13 +25,15 @@ open-unique κs a x y s t p q = cc
 pub gather-unique : Unique {A = Gathered × List ℕ} 3 gather-kinds.ps gather-kinds.r (λ κs x s. (x, now (s .1 .1 .0))) gather.Post
 gather-unique κs a x y s t p q = cc
 
-pub gather-checked-unique : Unique {A = Run × List ℕ} 3 gather-checked-kinds.ps gather-checked-kinds.r (λ κs x s. (x, now (s .1 .1 .0))) gather-checked.Post
+pub gather-checked-unique : Unique {A = Run × List ℕ} 3 gather-checked-kinds.ps gather-checked-kinds.r
+    (λ κs x s. (x, now (s .1 .1 .0))) gather-checked.Post
 gather-checked-unique κs a x y s t p q = cc
 
 -- the answer, the table and the area
-pub settle-unique : Unique {A = Settled × List ℕ × List ℕ} 3 settle-kinds.ps settle-kinds.r (λ κs x s. (x, now (s .1 .0), now (s .1 .1 .0))) settle.Post
+pub settle-unique : Unique {A = Settled × List ℕ × List ℕ} 3 settle-kinds.ps settle-kinds.r
+    (λ κs x s. (x, now (s .1 .0), now (s .1 .1 .0))) settle.Post
 settle-unique κs a x y s t p q = cc
 
-pub settle-checked-unique : Unique {A = Settled × List ℕ × List ℕ} 3 settle-checked-kinds.ps settle-checked-kinds.r (λ κs x s. (x, now (s .1 .0), now (s .1 .1 .0)))
-    settle-checked.Post
+pub settle-checked-unique : Unique {A = Settled × List ℕ × List ℕ} 3 settle-checked-kinds.ps settle-checked-kinds.r
+    (λ κs x s. (x, now (s .1 .0), now (s .1 .1 .0))) settle-checked.Post
 settle-checked-unique κs a x y s t p q = cc

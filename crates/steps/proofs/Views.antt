@@ -1,11 +1,9 @@
 -- The area after each step, seen as write marks, read marks and slots. Assumes nothing.
-use Prim.Native.Nat.{ℕ, _+_, _*_, _≤_, _<_}
+use Prim.Native.Nat.{ℕ, _≤_, _<_}
 use mathlib.Core.Path.{_≡_, refl, sym, ap, _∙_}
-use mathlib.Core.Bool.{true}
 use mathlib.Core.List.{List, [], _∷_}
-use native.Mathlib.Omega.{arith}
-use lib.ListN.{length, getD, set, length-set}
-use Rattle.base.specs.Words.{has, words}
+use lib.ListN.{length, set, length-set}
+use Rattle.base.specs.Words.{words}
 use Rattle.image.specs.Limits.{maxProgramBytes}
 use Rattle.slot.specs.Layout.{stateWord, detailWord, slotWords}
 use Rattle.slot.specs.Log.{Log, logOf, Fits}
@@ -15,7 +13,8 @@ use Rattle.area.specs.Layout.{areaWords, writeMarks, readMarks, slotAt, readsOf
 use Rattle.area.specs.Marks.{reserve, storeAll}
 use Rattle.area.proofs.Views.{log-in-slot}
 use Rattle.area.proofs.Changes.{slot-length, slot-own, slot-other, slot-write-marks, slot-read-marks, state-length, state-own, state-other}
-use Rattle.area.proofs.Changes.{state-write-marks, state-read-marks, reserve-length, writes-own, writes-read-marks, writes-slot, reads-own, reads-write-marks, reads-slot}
+use Rattle.area.proofs.Changes.{state-write-marks, state-read-marks, reserve-length, writes-own, writes-read-marks, writes-slot, reads-own}
+use Rattle.area.proofs.Changes.{reads-write-marks, reads-slot}
 use Rattle.area.proofs.Checks.{Passed, reads-count-few, stores-count-few}
 use Rattle.area.proofs.Keeps.{slot-keeps, writes-keep, reads-keep}
 use Rattle.steps.specs.declared.Settled.{Settled}

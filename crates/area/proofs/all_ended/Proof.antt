@@ -31,8 +31,8 @@ is-end-requires c κs = search needs
 returns : tie.Need-returns Inv-loop μ-loop
 unfolding allEnded
 returns c =
-    let a = c .before .before .before .before .before .before .args in
-    sym (every-false (a .n) (λ q. isEnd (stateOf (a .cells) q (a .area .now))) (c .before .before .before .before .loop .k) (omega arith) (ap isEnd (sym (c .before .before .state .ensures)) ∙ (sym (c .before .is-end .ensures) ∙ not-true _ (c .if1 .taken))))
+    sym (every-false _ _ (c .before .before .before .before .loop .k) (omega arith)
+    (ap isEnd (sym (c .before .before .state .ensures)) ∙ (sym (c .before .is-end .ensures) ∙ not-true _ (c .if1 .taken))))
 
 add-k : tie.Need-add-k Inv-loop μ-loop
 add-k c = search needs
@@ -41,7 +41,11 @@ loop-less : tie.Need-loop-less Inv-loop μ-loop
 loop-less c = search needs
 
 loop-again : tie.Need-loop-again Inv-loop μ-loop
-loop-again c = (search needs, every-more _ _ (c .before .before .before .before .loop .inv .1) (ap isEnd (sym (c .before .before .state .ensures)) ∙ (sym (c .before .is-end .ensures) ∙ not-false _ (c .if1 .left))))
+loop-again c = (
+  search needs,
+  every-more _ _ (c .before .before .before .before .loop .inv .1)
+      (ap isEnd (sym (c .before .before .state .ensures)) ∙ (sym (c .before .is-end .ensures) ∙ not-false _ (c .if1 .left))),
+)
 
 returns-2 : tie.Need-returns-2 Inv-loop μ-loop
 unfolding allEnded

@@ -11,25 +11,23 @@ room-refusal-requires c κs = search needs
 
 returns : tie.Need-returns
 returns c =
-    let a = c .before .before .before .before .args in
     let e = c .before .room-refusal .ensures in
-    e ∙ sym (area-room (a .n) (a .table .now) (a .area .now) (λ z. c .if1 .taken (e ∙ z)))
+    e ∙ sym (area-room _ _ _ (λ z. c .if1 .taken (e ∙ z)))
 
 words-good-requires : tie.Need-words-good-requires
 words-good-requires c κs =
-    let a = c .before .before .before .before .args in
-    let w = room-shows (a .n) (a .table .now) (a .area .now) (sym (c .before .room-refusal .ensures) ∙ c .if1 .left) in
+    let w = room-shows _ _ _ (sym (c .before .room-refusal .ensures) ∙ c .if1 .left) in
     (w .1, c .before .before .before .before .pre, w .2)
 
 returns-2 : tie.Need-returns-2
 returns-2 c =
-    let a = c .before .before .before .before .before .before .args in
-    sym (area-bad (a .n) (a .table .now) (a .area .now) (sym (c .before .before .before .room-refusal .ensures) ∙ c .before .before .if1 .left) (sym (c .before .words-good .ensures) ∙ not-true _ (c .if2 .taken)))
+    sym (area-bad _ _ _ (sym (c .before .before .before .room-refusal .ensures) ∙ c .before .before .if1 .left)
+    (sym (c .before .words-good .ensures) ∙ not-true _ (c .if2 .taken)))
 
 returns-3 : tie.Need-returns-3
 returns-3 c =
-    let a = c .before .before .before .before .before .before .args in
-    sym (area-right (a .n) (a .table .now) (a .area .now) (sym (c .before .before .before .room-refusal .ensures) ∙ c .before .before .if1 .left) (sym (c .before .words-good .ensures) ∙ not-false _ (c .if2 .left)))
+    sym (area-right _ _ _ (sym (c .before .before .before .room-refusal .ensures) ∙ c .before .before .if1 .left)
+    (sym (c .before .words-good .ensures) ∙ not-false _ (c .if2 .left)))
 
 pub area-refusal-spec : {M : Type 1} → statement M
 area-refusal-spec =

@@ -1,9 +1,7 @@
 -- The image's own refusal comes first; an image that is not refused has few enough programs for the other checks. Assumes nothing.
-use mathlib.Core.Path.{sym, ap, _∙_}
-use Prim.Native.Nat.{ℕ}
+use mathlib.Core.Path.{sym, _∙_}
 use native.Mathlib.Omega.{arith}
 use borrow.Author.Needs.{needs}
-use Rattle.area.specs.Checks.{areaRefusal}
 use Rattle.area.proofs.Checks.{few, call-image, call-area}
 use Rattle.area.proofs.call_refusal.Statement.{statement}
 use Rattle.area.proofs.call_refusal.Tie as tie
@@ -13,9 +11,8 @@ image-refusal-requires c κs = search needs
 
 returns : tie.Need-returns
 returns c =
-    let a = c .before .before .before .before .before .args in
     let e = c .before .image-refusal .ensures in
-    e ∙ sym (call-image (a .image .now) (a .table .now) (a .area .now) (λ z. c .if1 .taken (e ∙ z)))
+    e ∙ sym (call-image _ _ _ (λ z. c .if1 .taken (e ∙ z)))
 
 count-requires : tie.Need-count-requires
 count-requires c κs = search needs
@@ -27,11 +24,8 @@ area-refusal-requires c κs =
 
 returns-2 : tie.Need-returns-2
 returns-2 c =
-    let a = c .before .before .before .before .before .before .before .args in
-    let e = c .before .before .before .image-refusal .ensures in
-    c .area-refusal .ensures
-    ∙ (ap (λ (n : ℕ). areaRefusal n (a .table .now) (a .area .now)) (c .before .count .ensures .0)
-    ∙ sym (call-area (a .image .now) (a .table .now) (a .area .now) (sym e ∙ c .before .before .if1 .left)))
+    rw (call-area _ _ _ (sym (c .before .before .before .image-refusal .ensures) ∙ c .before .before .if1 .left), ← c .before .count .ensures .0)
+    (c .area-refusal .ensures)
 
 pub call-refusal-spec : {M : Type 1} → statement M
 call-refusal-spec =

@@ -36,9 +36,7 @@ cast-if1 c = omega (arith, c .shared-slice-known .given (c .before .before .befo
 
 returns : tie.Need-returns Inv-loop μ-loop
 unfolding cellsGood
-returns c =
-    let a = c .before .before .before .before .args in
-    sym (every-false (a .count) (λ q. ltb (getD (a .area .now) (a .at + q) 0) (a .cells)) (c .before .before .before .loop .i) (omega arith) (le-ltb _ _ (c .if1 .taken)))
+returns c = sym (every-false _ _ (c .before .before .before .loop .i) (omega arith) (le-ltb _ _ (c .if1 .taken)))
 
 add-i : tie.Need-add-i Inv-loop μ-loop
 add-i c = search needs

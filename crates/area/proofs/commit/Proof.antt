@@ -2,7 +2,6 @@
 use mathlib.Core.Path.{refl}
 use Prim.Native.Nat.{_+_}
 use native.Mathlib.Omega.{arith}
-use lib.ListN.{length}
 use borrow.Author.Needs.{needs}
 use Rattle.slot.specs.Layout.{storeCount}
 use Rattle.area.proofs.Places.{by-values, stores-table}
@@ -31,17 +30,13 @@ add-store-all-2 : tie.Need-add-store-all-2
 add-store-all-2 c = search needs
 
 store-all-requires : tie.Need-store-all-requires
-store-all-requires c κs =
-    let a = c .before .before .before .before .before .args in
-    stores-table (length (a .table .now)) (a .number) _ (a .area .now) (c .before .before .slot-start .ensures) (c .before .before .before .before .before .pre) (a .table .now) refl
+store-all-requires c κs = stores-table _ _ _ _ (c .before .before .slot-start .ensures) (c .before .before .before .before .before .pre) _ refl
 
 same-length : tie.Need-same-length
 same-length c = search needs
 
 returns : tie.Need-returns
-returns c =
-    let a = c .before .before .before .before .before .before .before .before .args in
-    by-values (length (a .table .now)) (a .number) _ (a .area .now) (c .before .before .before .before .before .slot-start .ensures) (a .table .now) _ (c .before .before .store-all .ensures)
+returns c = by-values _ _ _ _ (c .before .before .before .before .before .slot-start .ensures) _ _ (c .before .before .store-all .ensures)
 
 pub commit-spec : {M : Type 1} → statement M
 commit-spec =

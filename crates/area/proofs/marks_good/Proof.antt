@@ -36,9 +36,7 @@ cast-if1 c = omega (arith, c .shared-slice-known .given (c .before .before .befo
 
 returns : tie.Need-returns Inv-loop μ-loop
 unfolding marksGood
-returns c =
-    let a = c .before .before .before .before .args in
-    sym (every-false (a .cells) (λ q. leb (getD (a .area .now) (a .at + q) 0) (a .n)) (c .before .before .before .loop .c) (omega arith) (lt-leb _ _ (c .if1 .taken)))
+returns c = sym (every-false _ _ (c .before .before .before .loop .c) (omega arith) (lt-leb _ _ (c .if1 .taken)))
 
 add-c : tie.Need-add-c Inv-loop μ-loop
 add-c c = search needs

@@ -29,8 +29,7 @@ state-requires c κs = search needs
 returns : tie.Need-returns Inv-loop μ-loop
 unfolding noneWaits
 returns c =
-    let a = c .before .before .before .before .before .args in
-    sym (every-false (a .n) (λ q. not (eqb (stateOf (a .cells) q (a .area .now)) waiting)) (c .before .before .before .loop .k) (omega arith) (ap not (eq-eqb _ _ (sym (c .before .state .ensures) ∙ c .if1 .taken))))
+    sym (every-false _ _ (c .before .before .before .loop .k) (omega arith) (ap not (eq-eqb _ _ (sym (c .before .state .ensures) ∙ c .if1 .taken))))
 
 add-k : tie.Need-add-k Inv-loop μ-loop
 add-k c = search needs
@@ -39,7 +38,11 @@ loop-less : tie.Need-loop-less Inv-loop μ-loop
 loop-less c = search needs
 
 loop-again : tie.Need-loop-again Inv-loop μ-loop
-loop-again c = (search needs, every-more _ _ (c .before .before .before .loop .inv .1) (ap not (ne-eqb _ _ (λ q. c .if1 .left (c .before .state .ensures ∙ q)))))
+loop-again c = (
+  search needs,
+  every-more _ _ (c .before .before .before .loop .inv .1)
+      (ap not (ne-eqb _ _ (λ q. c .if1 .left (c .before .state .ensures ∙ q)))),
+)
 
 returns-2 : tie.Need-returns-2 Inv-loop μ-loop
 unfolding noneWaits

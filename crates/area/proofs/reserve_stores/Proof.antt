@@ -30,11 +30,11 @@ add-reserve : tie.Need-add-reserve
 add-reserve c = search needs
 
 reserve-requires : tie.Need-reserve-requires
-reserve-requires c κs =
-    let a = c .before .before .before .before .before .args in (
-      names-stores (a .cells) (a .number) _ (a .area .now) (c .before .before .before .slot-start .ensures) (c .before .before .before .before .before .pre) _ (omega (arith, c .write-marks .ensures)),
-      c .before .before .before .before .before .pre .number-few,
-    )
+reserve-requires c κs = (
+  names-stores _ _ _ _ (c .before .before .before .slot-start .ensures) (c .before .before .before .before .before .pre) _
+      (omega (arith, c .write-marks .ensures)),
+  c .before .before .before .before .before .pre .number-few,
+)
 
 same-length : tie.Need-same-length
 same-length c = search needs
@@ -42,7 +42,9 @@ same-length c = search needs
 returns : tie.Need-returns
 returns c =
     let a = c .before .before .before .before .before .before .before .before .args in
-    by-stores (a .cells) (a .number) _ (a .area .now) (c .before .before .before .before .before .before .slot-start .ensures) (λ m cells. reserve m cells (a .number) (a .area .now)) _ _ (c .before .before .before .write-marks .ensures) _ (c .before .before .reserve .ensures)
+    by-stores _ _ _ _ (c .before .before .before .before .before .before .slot-start .ensures)
+    (λ m cells. reserve m cells (a .number) (a .area .now)) _ _
+    (c .before .before .before .write-marks .ensures) _ (c .before .before .reserve .ensures)
 
 pub reserve-stores-spec : {M : Type 1} → statement M
 reserve-stores-spec =

@@ -6,23 +6,22 @@ use Rattle.area.proofs.room_refusal.Statement.{statement}
 use Rattle.area.proofs.room_refusal.Tie as tie
 
 returns : tie.Need-returns
-returns c = let a = c .before .before .before .args in sym (room-none (a .n) (a .table .now) (a .area .now) (c .if1 .taken))
+returns c = sym (room-none _ _ _ (c .if1 .taken))
 
 returns-2 : tie.Need-returns-2
-returns-2 c = let a = c .before .before .before .before .args in sym (room-many (a .n) (a .table .now) (a .area .now) (c .if2 .taken))
+returns-2 c = sym (room-many _ _ _ (c .if2 .taken))
 
 slot-start-requires : tie.Need-slot-start-requires
 slot-start-requires c κs = search needs
 
 returns-3 : tie.Need-returns-3
 returns-3 c =
-    let a = c .before .before .before .before .before .before .args in
-    sym (room-other (a .n) (a .table .now) (a .area .now) (c .before .before .before .if1 .left) (c .before .before .if2 .left) (λ q. c .if3 .taken (q ∙ sym (c .before .slot-start .ensures))))
+    sym (room-other _ _ _ (c .before .before .before .if1 .left) (c .before .before .if2 .left)
+    (λ q. c .if3 .taken (q ∙ sym (c .before .slot-start .ensures))))
 
 returns-4 : tie.Need-returns-4
 returns-4 c =
-    let a = c .before .before .before .before .before .before .args in
-    sym (room-right (a .n) (a .table .now) (a .area .now) (c .before .before .before .if1 .left) (c .before .before .if2 .left) (c .if3 .left ∙ c .before .slot-start .ensures))
+    sym (room-right _ _ _ (c .before .before .before .if1 .left) (c .before .before .if2 .left) (c .if3 .left ∙ c .before .slot-start .ensures))
 
 pub room-refusal-spec : {M : Type 1} → statement M
 room-refusal-spec = tie.close (tie.spec returns returns-2 slot-start-requires returns-3 returns-4)

@@ -21,9 +21,9 @@ shared-slice-read-if1 c = search needs
 
 returns : tie.Need-returns
 returns c =
-    let a = c .before .before .before .before .args in
-    let start = c .before .before .slot-start in
-    sym (slot-good-from (a .cells) (a .k) (start .result) (a .area .now) (start .ensures) ∙ rw (lt-leb _ lastState (c .if1 .taken)))
+    sym
+    (slot-good-from _ _ _ _ (c .before .before .slot-start .ensures)
+    ∙ rw (lt-leb _ lastState (c .if1 .taken)))
 
 add-reads : tie.Need-add-reads
 add-reads c = search needs
@@ -39,9 +39,12 @@ cast-reads c = omega (arith, c .shared-slice-known3 .given (c .before .before .b
 
 returns-2 : tie.Need-returns-2
 returns-2 c =
-    let a = c .before .before .before .before .before .before .args in
-    let start = c .before .before .before .before .slot-start in
-    sym (slot-good-from (a .cells) (a .k) (start .result) (a .area .now) (start .ensures) ∙ rw (le-leb _ lastState (c .before .before .if1 .left), lt-leb _ listWords (c .if2 .taken)))
+    sym
+    (slot-good-from _ _ _ _ (c .before .before .before .before .slot-start .ensures)
+    ∙ rw (
+      le-leb _ lastState (c .before .before .if1 .left),
+      lt-leb _ listWords (c .if2 .taken),
+    ))
 
 add-stores : tie.Need-add-stores
 add-stores c = search needs
@@ -57,9 +60,13 @@ cast-stores c = omega (arith, c .shared-slice-known4 .given (c .before .before .
 
 returns-3 : tie.Need-returns-3
 returns-3 c =
-    let a = c .before .before .before .before .before .before .before .before .args in
-    let start = c .before .before .before .before .before .before .slot-start in
-    sym (slot-good-from (a .cells) (a .k) (start .result) (a .area .now) (start .ensures) ∙ rw (le-leb _ lastState (c .before .before .before .before .if1 .left), le-leb _ listWords (c .before .before .if2 .left), lt-leb _ listWords (c .if3 .taken)))
+    sym
+    (slot-good-from _ _ _ _ (c .before .before .before .before .before .before .slot-start .ensures)
+    ∙ rw (
+      le-leb _ lastState (c .before .before .before .before .if1 .left),
+      le-leb _ listWords (c .before .before .if2 .left),
+      lt-leb _ listWords (c .if3 .taken),
+    ))
 
 add-cells-good : tie.Need-add-cells-good
 add-cells-good c = search needs
@@ -69,9 +76,14 @@ cells-good-requires c κs = search needs
 
 returns-4 : tie.Need-returns-4
 returns-4 c =
-    let a = c .before .before .before .before .before .before .before .before .before .before .args in
-    let start = c .before .before .before .before .before .before .before .before .slot-start in
-    sym (slot-good-from (a .cells) (a .k) (start .result) (a .area .now) (start .ensures) ∙ rw (le-leb _ lastState (c .before .before .before .before .before .before .if1 .left), le-leb _ listWords (c .before .before .before .before .if2 .left), le-leb _ listWords (c .before .before .if3 .left), sym (c .before .cells-good .ensures) ∙ not-true _ (c .if4 .taken)))
+    sym
+    (slot-good-from _ _ _ _ (c .before .before .before .before .before .before .before .before .slot-start .ensures)
+    ∙ rw (
+      le-leb _ lastState (c .before .before .before .before .before .before .if1 .left),
+      le-leb _ listWords (c .before .before .before .before .if2 .left),
+      le-leb _ listWords (c .before .before .if3 .left),
+      sym (c .before .cells-good .ensures) ∙ not-true _ (c .if4 .taken),
+    ))
 
 add-cells-good-2 : tie.Need-add-cells-good-2
 add-cells-good-2 c = search needs
@@ -81,9 +93,15 @@ cells-good-requires-2 c κs = search needs
 
 returns-5 : tie.Need-returns-5
 returns-5 c =
-    let a = c .before .before .before .before .before .before .before .before .before .before .before .args in
-    let start = c .before .before .before .before .before .before .before .before .before .slot-start in
-    sym (slot-good-from (a .cells) (a .k) (start .result) (a .area .now) (start .ensures) ∙ rw (le-leb _ lastState (c .before .before .before .before .before .before .before .if1 .left), le-leb _ listWords (c .before .before .before .before .before .if2 .left), le-leb _ listWords (c .before .before .before .if3 .left), sym (c .before .before .cells-good .ensures) ∙ not-false _ (c .before .if4 .left), sym (c .cells-good2 .ensures)))
+    sym
+    (slot-good-from _ _ _ _ (c .before .before .before .before .before .before .before .before .before .slot-start .ensures)
+    ∙ rw (
+      le-leb _ lastState (c .before .before .before .before .before .before .before .if1 .left),
+      le-leb _ listWords (c .before .before .before .before .before .if2 .left),
+      le-leb _ listWords (c .before .before .before .if3 .left),
+      sym (c .before .before .cells-good .ensures) ∙ not-false _ (c .before .if4 .left),
+      sym (c .cells-good2 .ensures),
+    ))
 
 pub slot-good-spec : {M : Type 1} → statement M
 slot-good-spec =

@@ -26,8 +26,7 @@ slot-good-requires c κs = search needs
 returns : tie.Need-returns Inv-loop μ-loop
 unfolding slotsGood
 returns c =
-    let a = c .before .before .before .before .before .args in
-    sym (every-false (a .n) (λ q. slotGood (a .cells) q (a .area .now)) (c .before .before .before .loop .k) (omega arith) (sym (c .before .slot-good .ensures) ∙ not-true _ (c .if1 .taken)))
+    sym (every-false _ _ (c .before .before .before .loop .k) (omega arith) (sym (c .before .slot-good .ensures) ∙ not-true _ (c .if1 .taken)))
 
 add-k : tie.Need-add-k Inv-loop μ-loop
 add-k c = search needs
@@ -36,7 +35,8 @@ loop-less : tie.Need-loop-less Inv-loop μ-loop
 loop-less c = search needs
 
 loop-again : tie.Need-loop-again Inv-loop μ-loop
-loop-again c = (search needs, every-more _ _ (c .before .before .before .loop .inv .1) (sym (c .before .slot-good .ensures) ∙ not-false _ (c .if1 .left)))
+loop-again c =
+    (search needs, every-more _ _ (c .before .before .before .loop .inv .1) (sym (c .before .slot-good .ensures) ∙ not-false _ (c .if1 .left)))
 
 returns-2 : tie.Need-returns-2 Inv-loop μ-loop
 unfolding slotsGood

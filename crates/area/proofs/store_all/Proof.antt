@@ -13,7 +13,8 @@ use Rattle.area.proofs.store_all.Tie as tie
 abbrev Inv-loop : tie.InvT-loop
 Inv-loop table₀ area cells values count i₀ table i =
     (i ≤ count) × (length table ≡ length table₀)
-    × (storeAll (drop i (words cells count area)) (drop i (words values count area)) table ≡ storeAll (words cells count area) (words values count area) table₀)
+    × (storeAll (drop i (words cells count area)) (drop i (words values count area)) table
+    ≡ storeAll (words cells count area) (words values count area) table₀)
 
 abbrev μ-loop : tie.MeasureT-loop
 μ-loop table₀ area cells values count i₀ table i = count - i
@@ -43,10 +44,12 @@ shared-slice-read-table : tie.Need-shared-slice-read-table Inv-loop μ-loop
 shared-slice-read-table c = search needs
 
 mul-table-2 : tie.Need-mul-table-2 Inv-loop μ-loop
-mul-table-2 c = omega (arith, c .before .before .before .before .pre .in-table (c .before .before .before .loop .i) (c .before .before .loop-test .taken))
+mul-table-2 c =
+    omega (arith, c .before .before .before .before .pre .in-table (c .before .before .before .loop .i) (c .before .before .loop-test .taken))
 
 slice-write-table : tie.Need-slice-write-table Inv-loop μ-loop
-slice-write-table c = omega (arith, c .before .before .before .before .pre .in-table (c .before .before .before .loop .i) (c .before .before .loop-test .taken))
+slice-write-table c =
+    omega (arith, c .before .before .before .before .pre .in-table (c .before .before .before .loop .i) (c .before .before .loop-test .taken))
 
 add-i : tie.Need-add-i Inv-loop μ-loop
 add-i c = search needs
@@ -56,18 +59,19 @@ loop-less c = search needs
 
 loop-again : tie.Need-loop-again Inv-loop μ-loop
 loop-again c =
-    let a = c .before .before .before .before .args in
-    let l = c .before .before .before .loop in
-    (omega arith, simp length-set (l .inv .1), storing-next (a .cells) (a .values) (a .count) (a .area .now) (a .table .now) (c .before .before .before .before .pre) (l .i) (l .table) (l .inv .2) (c .before .before .loop-test .taken))
+    let l = c .before .before .before .loop in (
+      omega arith,
+      simp length-set (l .inv .1),
+      storing-next _ _ _ _ _ (c .before .before .before .before .pre) (l .i) (l .table) (l .inv .2) (c .before .before .loop-test .taken),
+    )
 
 same-length : tie.Need-same-length Inv-loop μ-loop
 same-length c = search needs
 
 returns : tie.Need-returns Inv-loop μ-loop
 returns c =
-    let a = c .before .before .args in
     let l = c .before .loop in
-    storing-end (a .cells) (a .values) (a .count) (a .area .now) (a .table .now) (c .before .before .pre) (l .i) (l .table) (l .inv .2) (l .inv .0) (c .loop-test .left)
+    storing-end _ _ _ _ _ (c .before .before .pre) (l .i) (l .table) (l .inv .2) (l .inv .0) (c .loop-test .left)
 
 pub store-all-spec : {M : Type 1} → statement M
 store-all-spec =

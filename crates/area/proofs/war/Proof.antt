@@ -31,14 +31,14 @@ add-hit c = search needs
 
 hit-requires : tie.Need-hit-requires
 hit-requires c κs =
-    let a = c .before .before .before .before .args in
-    names-stores (a .cells) (a .number) _ (a .area .now) (c .before .before .slot-start .ensures) (c .before .before .before .before .pre) _ (omega (arith, c .read-marks .ensures))
+    names-stores _ _ _ _ (c .before .before .slot-start .ensures) (c .before .before .before .before .pre) _ (omega (arith, c .read-marks .ensures))
 
 returns : tie.Need-returns
 unfolding war
 returns c =
     let a = c .before .before .before .before .before .args in
-    by-stores (a .cells) (a .number) _ (a .area .now) (c .before .before .before .slot-start .ensures) (λ m cells. hit m cells (a .number) (a .area .now)) _ _ (c .before .read-marks .ensures) _ (c .hit .ensures)
+    by-stores _ _ _ _ (c .before .before .before .slot-start .ensures) (λ m cells. hit m cells (a .number) (a .area .now)) _ _
+    (c .before .read-marks .ensures) _ (c .hit .ensures)
 
 pub war-spec : {M : Type 1} → statement M
 war-spec =

@@ -13,16 +13,18 @@ same-length : tie.Need-same-length
 same-length c = search needs
 
 returns : tie.Need-returns
-returns c = let a = c .before .before .before .before .before .before .args in gather-refused (a .image .now) (a .table .now) (a .area .now) (a .number) _ (c .before .gather-refusal .ensures) (c .if1 .taken)
+returns c = gather-refused _ _ _ _ _ (c .before .gather-refusal .ensures) (c .if1 .taken)
 
 gather-checked-requires : tie.Need-gather-checked-requires
-gather-checked-requires c κs = let a = c .before .before .before .before .before .before .before .args in gather-shows (a .image .now) (a .table .now) (a .area .now) (a .number) (sym (c .before .before .gather-refusal .ensures) ∙ c .before .if1 .left)
+gather-checked-requires c κs = gather-shows _ _ _ _ (sym (c .before .before .gather-refusal .ensures) ∙ c .before .if1 .left)
 
 same-length-2 : tie.Need-same-length-2
 same-length-2 c = search needs
 
 returns-2 : tie.Need-returns-2
-returns-2 c = let a = c .before .before .before .before .before .before .before .before .before .before .args in gather-done (a .image .now) (a .table .now) (a .area .now) (a .number) _ (c .before .before .before .before .before .gather-refusal .ensures) (c .before .before .before .before .if1 .left) _ _ (c .before .before .gather-checked .ensures)
+returns-2 c =
+    let refusal = c .before .before .before .before .before .gather-refusal in
+    gather-done _ _ _ _ _ (refusal .ensures) (c .before .before .before .before .if1 .left) _ _ (c .before .before .gather-checked .ensures)
 
 pub gather-spec : {M : Type 1} → statement M
 gather-spec =

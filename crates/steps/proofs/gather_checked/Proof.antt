@@ -4,29 +4,37 @@ use Rattle.steps.proofs.Says.{after-run, after-stores, after-reads}
 use Rattle.steps.proofs.gather_checked.Statement.{statement}
 use Rattle.steps.proofs.gather_checked.Tie as tie
 
+-- where the function begins, from the run; the run, from the write marks; these, from the read marks
+abbrev start : tie.After-run-into → tie.Start
+start c = c .before .before .before .before .before
+
+abbrev ran : tie.After-reserve-stores → tie.After-run-into
+ran c = c .before .before .before .before
+
+abbrev stored : tie.After-reserve-reads → tie.After-reserve-stores
+stored c = c .before .before .before .before
+
 run-into-requires : tie.Need-run-into-requires
 run-into-requires c κs = search needs
 
 reserve-stores-requires : tie.Need-reserve-stores-requires
-reserve-stores-requires c κs =
-    let s = c .before .before .before .before .before .before .before .before in
-    let a = s .args in
-    after-run (a .image .now) (a .table .now) (a .area .now) (a .number) (s .pre .0) (s .pre .1) _ _ (c .before .before .before .run-into .ensures)
+reserve-stores-requires c κs = let r = c .before .before .before in after-run _ _ _ _ (start r .pre .0) (start r .pre .1) _ _ (r .run-into .ensures)
 
 reserve-reads-requires : tie.Need-reserve-reads-requires
 reserve-reads-requires c κs =
-    let s = c .before .before .before .before .before .before .before .before .before .before .before .before in
-    let a = s .args in
-    after-stores (a .image .now) (a .table .now) (a .area .now) (a .number) (s .pre .0) (s .pre .1) _ _ (c .before .before .before .before .before .before .before .run-into .ensures) _ (c .before .before .before .reserve-stores .ensures)
+    let w = c .before .before .before in
+    let r = ran w in
+    after-stores _ _ _ _ (start r .pre .0) (start r .pre .1) _ _ (r .run-into .ensures) _ (w .reserve-stores .ensures)
 
 same-length : tie.Need-same-length
 same-length c = search needs
 
 returns : tie.Need-returns
 returns c =
-    let s = c .before .before .before .before .before .before .before .before .before .before .before .before .before .before .before in
-    let a = s .args in
-    after-reads (a .image .now) (a .table .now) (a .area .now) (a .number) (s .pre .0) (s .pre .1) _ _ (c .before .before .before .before .before .before .before .before .before .before .run-into .ensures) _ (c .before .before .before .before .before .before .reserve-stores .ensures) _ (c .before .before .reserve-reads .ensures)
+    let z = c .before .before in
+    let w = stored z in
+    let r = ran w in
+    after-reads _ _ _ _ (start r .pre .0) (start r .pre .1) _ _ (r .run-into .ensures) _ (w .reserve-stores .ensures) _ (z .reserve-reads .ensures)
 
 pub gather-checked-spec : {M : Type 1} → statement M
 gather-checked-spec =

@@ -22,7 +22,8 @@ decide-requires c κs = search needs
 returns : tie.Need-returns
 returns c =
     let a = c .before .before .before .before .before .before .before .args in
-    judged (a .image .now) (a .area .now) (a .cells) (a .number) _ _ _ _ _ (c .decide .ensures) (c .before .before .before .before .second-rule .ensures) (c .before .before .before .waw .ensures) (c .before .before .raw .ensures) (c .before .war .ensures)
+    judged (a .image .now) (a .area .now) (a .cells) (a .number) _ _ _ _ _ (c .decide .ensures) (c .before .before .before .before .second-rule .ensures)
+    (c .before .before .before .waw .ensures) (c .before .before .raw .ensures) (c .before .war .ensures)
 
 pub judge-spec : {M : Type 1} → statement M
 judge-spec =

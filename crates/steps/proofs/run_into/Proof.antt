@@ -13,7 +13,7 @@ use Rattle.steps.proofs.run_into.Statement.{statement}
 use Rattle.steps.proofs.run_into.Tie as tie
 
 part-of-requires : tie.Need-part-of-requires
-part-of-requires c κs = let s = c .before .before .before in (accepted (s .args .image .now) (s .pre .0 .accepted) .offsets, s .pre .1, omega arith)
+part-of-requires c κs = let s = c .before .before .before in (accepted _ (s .pre .0 .accepted) .offsets, s .pre .1, omega arith)
 
 slot-start-requires : tie.Need-slot-start-requires
 slot-start-requires c κs = search needs
@@ -35,9 +35,9 @@ part-run-program-end c = search needs
 
 run-program-requires : tie.Need-run-program-requires
 run-program-requires c κs =
-    let s = c .before .before .before .before .before .before in
-    let a = s .args in (
-      subst (λ (p : List ℕ). Runnable p) (sym (c .before .before .part-of .ensures .bytes-are)) (part-runnable (a .image .now) (s .pre .0 .accepted) (a .number) (s .pre .1)),
+    let s = c .before .before .before .before .before .before in (
+      subst (λ (p : List ℕ). Runnable p) (sym (c .before .before .part-of .ensures .bytes-are))
+          (part-runnable _ (s .pre .0 .accepted) _ (s .pre .1)),
       s .pre .0 .cells-few,
       simp (length-take, length-drop) (omega (arith, s .pre .0 .sized, s .pre .1, c .before .slot-start .ensures)),
     )
@@ -47,8 +47,8 @@ same-length c = search needs
 
 returns : tie.Need-returns
 returns c =
-    let a = c .before .before .before .before .before .before .before .before .before .args in
-    runs-into (a .image .now) (a .table .now) (a .area .now) (a .number) _ _ _ _ (c .before .before .before .before .slot-start .ensures) (c .before .before .before .before .before .part-of .ensures .bytes-are) (c .before .before .run-program .ensures)
+    runs-into _ _ _ _ _ _ _ _ (c .before .before .before .before .slot-start .ensures)
+    (c .before .before .before .before .before .part-of .ensures .bytes-are) (c .before .before .run-program .ensures)
 
 pub run-into-spec : {M : Type 1} → statement M
 run-into-spec =

@@ -16,10 +16,10 @@ same-length-2 : tie.Need-same-length-2
 same-length-2 c = search needs
 
 returns : tie.Need-returns
-returns c = let a = c .before .before .before .before .before .before .before .args in settle-refused (a .image .now) (a .table .now) (a .area .now) (a .number) _ (c .before .settle-refusal .ensures) (c .if1 .taken)
+returns c = settle-refused _ _ _ _ _ (c .before .settle-refusal .ensures) (c .if1 .taken)
 
 settle-checked-requires : tie.Need-settle-checked-requires
-settle-checked-requires c κs = let a = c .before .before .before .before .before .before .before .before .before .args in settle-shows (a .image .now) (a .table .now) (a .area .now) (a .number) (sym (c .before .before .before .settle-refusal .ensures) ∙ c .before .before .if1 .left)
+settle-checked-requires c κs = settle-shows _ _ _ _ (sym (c .before .before .before .settle-refusal .ensures) ∙ c .before .before .if1 .left)
 
 same-length-3 : tie.Need-same-length-3
 same-length-3 c = search needs
@@ -28,7 +28,10 @@ same-length-4 : tie.Need-same-length-4
 same-length-4 c = search needs
 
 returns-2 : tie.Need-returns-2
-returns-2 c = let a = c .before .before .before .before .before .before .before .before .before .before .before .before .before .before .args in settle-done (a .image .now) (a .table .now) (a .area .now) (a .number) _ (c .before .before .before .before .before .before .before .before .settle-refusal .ensures) (c .before .before .before .before .before .before .before .if1 .left) _ _ _ (c .before .before .before .before .settle-checked .ensures)
+returns-2 c =
+    let refusal = c .before .before .before .before .before .before .before .before .settle-refusal in
+    settle-done _ _ _ _ _ (refusal .ensures) (c .before .before .before .before .before .before .before .if1 .left) _ _ _
+    (c .before .before .before .before .settle-checked .ensures)
 
 pub settle-spec : {M : Type 1} → statement M
 settle-spec =

@@ -5,17 +5,21 @@ use Rattle.steps.proofs.Says.{after-settling}
 use Rattle.steps.proofs.settle_checked.Statement.{statement}
 use Rattle.steps.proofs.settle_checked.Tie as tie
 
+-- the table's stores, from the state's; the decision, from the table's; where the function begins, from the decision
+abbrev stored : tie.After-write-state → tie.After-store-committed
+stored c = c .before .before .before .before .before .before
+
+abbrev decided-at : tie.After-store-committed → tie.After-judge
+decided-at c = c .before .before .before
+
+abbrev start : tie.After-judge → tie.Start
+start c = c .before .before .before .before .before
+
 judge-requires : tie.Need-judge-requires
-judge-requires c κs =
-    let s = c .before .before .before .before in
-    let a = s .args in
-    program-slotted (a .image .now) (a .table .now) (a .area .now) (s .pre .0) (a .number) (s .pre .1)
+judge-requires c κs = let s = c .before .before .before .before in program-slotted _ _ _ (s .pre .0) _ (s .pre .1)
 
 store-committed-requires : tie.Need-store-committed-requires
-store-committed-requires c κs =
-    let s = c .before .before .before .before .before .before .before in
-    let a = s .args in
-    program-slotted (a .image .now) (a .table .now) (a .area .now) (s .pre .0) (a .number) (s .pre .1)
+store-committed-requires c κs = let s = c .before .before .before .before .before .before .before in program-slotted _ _ _ (s .pre .0) _ (s .pre .1)
 
 state-of-requires : tie.Need-state-of-requires
 state-of-requires c κs = search needs
@@ -25,9 +29,8 @@ detail-of-requires c κs = search needs
 
 write-state-requires : tie.Need-write-state-requires
 write-state-requires c κs =
-    let s = c .before .before .before .before .before .before .before .before .before .before .before .before .before in
-    let a = s .args in
-    program-slotted (a .image .now) (a .table .now) (a .area .now) (s .pre .0) (a .number) (s .pre .1)
+    let s = start (decided-at (c .before .before .before .before .before)) in
+    program-slotted _ _ _ (s .pre .0) _ (s .pre .1)
 
 same-length : tie.Need-same-length
 same-length c = search needs
@@ -37,8 +40,12 @@ same-length-2 c = search needs
 
 returns : tie.Need-returns
 returns c =
-    let a = c .before .before .before .before .before .before .before .before .before .before .before .before .before .before .before .before .args in
-    after-settling (a .image .now) (a .table .now) (a .area .now) (a .number) _ _ _ _ _ (c .before .before .before .before .before .before .before .before .before .before .before .judge .ensures) (c .before .before .before .before .before .before .before .before .store-committed .ensures) (c .before .before .write-state .ensures) (c .before .before .before .before .state-of .ensures) (c .before .before .before .detail-of .ensures)
+    let w = c .before .before in
+    let s = stored w in
+    let v = decided-at s in
+    let a = start v .args in
+    after-settling (a .image .now) (a .table .now) (a .area .now) (a .number) _ _ _ _ _ (v .judge .ensures) (s .store-committed .ensures)
+    (w .write-state .ensures) (w .before .before .state-of .ensures) (w .before .detail-of .ensures)
 
 pub settle-checked-spec : {M : Type 1} → statement M
 settle-checked-spec =

@@ -1,8 +1,6 @@
 -- Each arm is a case of the definition, and what was matched says which. Assumes nothing.
-use mathlib.Core.Path.{sym, ap, _∙_}
 use borrow.Author.Needs.{needs}
 use Rattle.steps.specs.Settling.{settledTable}
-use Rattle.steps.specs.declared.Settled.{Settled}
 use Rattle.steps.proofs.store_committed.Statement.{statement}
 use Rattle.steps.proofs.store_committed.Tie as tie
 
@@ -20,18 +18,18 @@ enum-told-3 c = search needs
 
 returns : tie.Need-returns
 unfolding settledTable
-returns c = let a = c .before .before .before .before .args in ap (λ (x : Settled). settledTable x (a .number) (a .area .now) (a .table .now)) (sym (c .enum-told .given .1))
+returns c = rw (c .enum-told .given .1)
 
 same-length : tie.Need-same-length
 same-length c = search needs
 
 returns-2 : tie.Need-returns-2
 unfolding settledTable
-returns-2 c = let a = c .before .before .before .before .before .before .before .before .args in c .before .before .commit .ensures ∙ ap (λ (x : Settled). settledTable x (a .number) (a .area .now) (a .table .now)) (sym (c .before .before .before .before .enum-told2 .given .1))
+returns-2 c = rw (c .before .before .before .before .enum-told2 .given .1) (c .before .before .commit .ensures)
 
 returns-3 : tie.Need-returns-3
 unfolding settledTable
-returns-3 c = let a = c .before .before .before .before .args in ap (λ (x : Settled). settledTable x (a .number) (a .area .now) (a .table .now)) (sym (c .enum-told3 .given .1))
+returns-3 c = rw (c .enum-told3 .given .1)
 
 pub store-committed-spec : {M : Type 1} → statement M
 store-committed-spec =

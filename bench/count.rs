@@ -1,0 +1,38 @@
+//! The instructions that the processor goes through in each call, of the archive and of the
+//! independent implementation, both as x86-64 code.
+//! Usage: count PLAIN ARCHIVE, the drivers of the two, which tools/run runs.
+
+mod driven;
+mod scenarios;
+mod table;
+
+use archive::{Archive, Measure};
+use scenarios::{Scenario, CALLS};
+use table::Figures;
+
+/// Counting is slow. The programs of a scenario are much alike, and one in so many is enough.
+const ONE_IN: usize = 8;
+
+/// Instructions per call, the mean where there is a call for each program.
+fn counts(archive: &mut Archive, scenario: &Scenario) -> Figures {
+    let mut sums = [(0.0, 0.0); CALLS.len()];
+    driven::run(archive, scenario, Measure::Instructions, ONE_IN, |call, instructions| {
+        let (sum, calls) = sums[call];
+        sums[call] = (sum + instructions as f64, calls + 1.0);
+    });
+    sums.map(|(sum, calls)| if calls > 0.0 { Some(sum / calls) } else { None })
+}
+
+/// Starts a driver, which is the program's argument in this place.
+fn start(place: usize) -> Archive {
+    let driver = std::env::args().nth(place).expect("two drivers");
+    Archive::start(&["tools/run".to_string(), driver])
+}
+
+fn main() {
+    let (mut plain, mut archive) = (start(1), start(2));
+    println!("Instructions per call, counted one by one.");
+    for scenario in scenarios::all() {
+        table::print(scenario.name, [counts(&mut plain, &scenario), counts(&mut archive, &scenario)]);
+    }
+}

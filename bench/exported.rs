@@ -1,0 +1,113 @@
+//! The independent implementation under the names of include/sheetbendle.h, so that the driver can
+//! link it in the archive's place. The driver keeps the header's rules; it never lends a null pointer
+//! here.
+
+use plain::{Count, Step};
+use std::slice::{from_raw_parts, from_raw_parts_mut};
+
+#[repr(C)]
+pub struct CStep(u32, u32, u32);
+
+#[repr(C)]
+pub struct CCount(u32, u32);
+
+#[repr(C)]
+pub struct CPart(usize, usize);
+
+#[no_mangle]
+pub unsafe extern "C" fn sheetbendle_program(image: *const u8, image_bytes: usize, number: usize) -> CPart {
+    let image = from_raw_parts(image, image_bytes);
+    let part = plain::program(image, number);
+    CPart(part.as_ptr() as usize - image.as_ptr() as usize, part.len())
+}
+
+#[no_mangle]
+pub unsafe extern "C" fn sheetbendle_program_refusal(
+    image: *const u8,
+    image_bytes: usize,
+    number: usize,
+) -> u32 {
+    plain::program_refusal(from_raw_parts(image, image_bytes), number)
+}
+
+#[no_mangle]
+pub unsafe extern "C" fn sheetbendle_open(
+    image: *const u8,
+    image_bytes: usize,
+    table: *const u32,
+    cells: usize,
+    area: *mut u32,
+    words: usize,
+) -> u32 {
+    let (image, table) = (from_raw_parts(image, image_bytes), from_raw_parts(table, cells));
+    plain::open(image, table, from_raw_parts_mut(area, words))
+}
+
+#[no_mangle]
+pub unsafe extern "C" fn sheetbendle_gather(
+    image: *const u8,
+    image_bytes: usize,
+    table: *const u32,
+    cells: usize,
+    area: *mut u32,
+    words: usize,
+    number: usize,
+) -> CStep {
+    let (image, table) = (from_raw_parts(image, image_bytes), from_raw_parts(table, cells));
+    step(plain::gather(image, table, from_raw_parts_mut(area, words), number))
+}
+
+#[no_mangle]
+pub unsafe extern "C" fn sheetbendle_settle(
+    image: *const u8,
+    image_bytes: usize,
+    table: *mut u32,
+    cells: usize,
+    area: *mut u32,
+    words: usize,
+    number: usize,
+) -> CStep {
+    let (image, table) = (from_raw_parts(image, image_bytes), from_raw_parts_mut(table, cells));
+    step(plain::settle(image, table, from_raw_parts_mut(area, words), number))
+}
+
+#[no_mangle]
+pub unsafe extern "C" fn sheetbendle_order(
+    image: *const u8,
+    image_bytes: usize,
+    table: *const u32,
+    cells: usize,
+    area: *const u32,
+    words: usize,
+    list: *mut u32,
+    entries: usize,
+) -> CCount {
+    let (image, table) = (from_raw_parts(image, image_bytes), from_raw_parts(table, cells));
+    count(plain::order(image, table, from_raw_parts(area, words), from_raw_parts_mut(list, entries)))
+}
+
+#[no_mangle]
+pub unsafe extern "C" fn sheetbendle_next_image(
+    image: *const u8,
+    image_bytes: usize,
+    table: *const u32,
+    cells: usize,
+    area: *const u32,
+    words: usize,
+    fresh: *const u8,
+    fresh_bytes: usize,
+    out: *mut u8,
+    out_bytes: usize,
+) -> CCount {
+    let (image, table) = (from_raw_parts(image, image_bytes), from_raw_parts(table, cells));
+    let (area, fresh) = (from_raw_parts(area, words), from_raw_parts(fresh, fresh_bytes));
+    count(plain::next_image(image, table, area, fresh, from_raw_parts_mut(out, out_bytes)))
+}
+
+fn step(Step { refusal, state, detail }: Step) -> CStep {
+    CStep(refusal, state, detail)
+}
+
+fn count(Count { refusal, count }: Count) -> CCount {
+    CCount(refusal, count)
+}

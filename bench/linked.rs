@@ -1,0 +1,133 @@
+//! The archive linked into this process: the declarations of include/sheetbendle.h that are timed,
+//! each behind a safe function that takes slices.
+
+use crate::Calls;
+use plain::{Count, Step};
+
+pub struct Archive;
+
+#[repr(C)]
+struct CStep {
+    refusal: u32,
+    state: u32,
+    detail: u32,
+}
+
+#[repr(C)]
+struct CCount {
+    refusal: u32,
+    count: u32,
+}
+
+extern "C" {
+    fn sheetbendle_open(
+        image: *const u8,
+        image_bytes: usize,
+        table: *const u32,
+        cells: usize,
+        area: *mut u32,
+        words: usize,
+    ) -> u32;
+    fn sheetbendle_gather(
+        image: *const u8,
+        image_bytes: usize,
+        table: *const u32,
+        cells: usize,
+        area: *mut u32,
+        words: usize,
+        number: usize,
+    ) -> CStep;
+    fn sheetbendle_settle(
+        image: *const u8,
+        image_bytes: usize,
+        table: *mut u32,
+        cells: usize,
+        area: *mut u32,
+        words: usize,
+        number: usize,
+    ) -> CStep;
+    fn sheetbendle_order(
+        image: *const u8,
+        image_bytes: usize,
+        table: *const u32,
+        cells: usize,
+        area: *const u32,
+        words: usize,
+        list: *mut u32,
+        entries: usize,
+    ) -> CCount;
+    fn sheetbendle_next_image(
+        image: *const u8,
+        image_bytes: usize,
+        table: *const u32,
+        cells: usize,
+        area: *const u32,
+        words: usize,
+        fresh: *const u8,
+        fresh_bytes: usize,
+        out: *mut u8,
+        out_bytes: usize,
+    ) -> CCount;
+}
+
+// Each call below passes pointers and lengths of live slices, which do not overlap: that is all
+// that the header asks.
+impl Calls for Archive {
+    #[inline]
+    fn open(&self, image: &[u8], table: &[u32], area: &mut [u32]) -> u32 {
+        let (image_bytes, cells, words) = (image.len(), table.len(), area.len());
+        let (image, table, area) = (image.as_ptr(), table.as_ptr(), area.as_mut_ptr());
+        unsafe { sheetbendle_open(image, image_bytes, table, cells, area, words) }
+    }
+
+    #[inline]
+    fn gather(&self, image: &[u8], table: &[u32], area: &mut [u32], number: usize) -> Step {
+        let (image_bytes, cells, words) = (image.len(), table.len(), area.len());
+        let (image, table, area) = (image.as_ptr(), table.as_ptr(), area.as_mut_ptr());
+        step(unsafe { sheetbendle_gather(image, image_bytes, table, cells, area, words, number) })
+    }
+
+    #[inline]
+    fn settle(&self, image: &[u8], table: &mut [u32], area: &mut [u32], number: usize) -> Step {
+        let (image_bytes, cells, words) = (image.len(), table.len(), area.len());
+        let (image, table, area) = (image.as_ptr(), table.as_mut_ptr(), area.as_mut_ptr());
+        step(unsafe { sheetbendle_settle(image, image_bytes, table, cells, area, words, number) })
+    }
+
+    #[inline]
+    fn order(&self, image: &[u8], table: &[u32], area: &[u32], list: &mut [u32]) -> Count {
+        let (image_bytes, cells, words, entries) = (image.len(), table.len(), area.len(), list.len());
+        let (image, table, area, list) = (image.as_ptr(), table.as_ptr(), area.as_ptr(), list.as_mut_ptr());
+        count(unsafe { sheetbendle_order(image, image_bytes, table, cells, area, words, list, entries) })
+    }
+
+    #[inline]
+    fn next_image(&self, image: &[u8], table: &[u32], area: &[u32], fresh: &[u8], out: &mut [u8]) -> Count {
+        let (image_bytes, cells, words) = (image.len(), table.len(), area.len());
+        let (fresh_bytes, out_bytes) = (fresh.len(), out.len());
+        let (image, table, area) = (image.as_ptr(), table.as_ptr(), area.as_ptr());
+        let (fresh, out) = (fresh.as_ptr(), out.as_mut_ptr());
+        count(unsafe {
+            sheetbendle_next_image(
+                image,
+                image_bytes,
+                table,
+                cells,
+                area,
+                words,
+                fresh,
+                fresh_bytes,
+                out,
+                out_bytes,
+            )
+        })
+    }
+}
+
+fn step(CStep { refusal, state, detail }: CStep) -> Step {
+    Step { refusal, state, detail }
+}
+
+fn count(CCount { refusal, count }: CCount) -> Count {
+    Count { refusal, count }
+}

@@ -1,0 +1,110 @@
+//! What the benchmarks run: a full batch, a typical one, and a hostile one for the order.
+
+use material::assembler::{self, Instruction};
+use material::random::{self, Random, Shape};
+use plain::area::{
+    words, CELLS, COMMITTED, GATHERED, READS, READ_COUNT, SLOT_WORDS, STATE, STORES, STORE_COUNT,
+};
+use plain::image::{INSTRUCTIONS, PROGRAMS};
+
+/// The calls that are measured.
+pub const CALLS: [&str; 5] = ["open", "gather", "settle", "order", "next_image"];
+pub const OPEN: usize = 0;
+pub const GATHER: usize = 1;
+pub const SETTLE: usize = 2;
+pub const ORDER: usize = 3;
+pub const NEXT_IMAGE: usize = 4;
+
+pub struct Scenario {
+    pub name: &'static str,
+    pub programs: usize,
+    pub image: Vec<u8>,
+    pub table: Vec<u32>,
+    pub fresh: Vec<u8>,
+    pub start: Start,
+}
+
+/// Where the calls begin.
+pub enum Start {
+    Opening,
+    /// A settled area that no call made: only the order and the next image are called.
+    MadeUpArea(Vec<u32>),
+}
+
+impl Scenario {
+    /// The area as the first call finds it.
+    pub fn first_area(&self) -> Vec<u32> {
+        match &self.start {
+            Start::Opening => vec![0; words(self.table.len(), self.programs)],
+            Start::MadeUpArea(area) => area.clone(),
+        }
+    }
+}
+
+pub fn all() -> Vec<Scenario> {
+    vec![full(), typical(), hostile()]
+}
+
+/// The numbers of the programs that are to be settled.
+pub fn gathered_programs(area: &[u32], cells: usize) -> Vec<usize> {
+    let states = plain::area::states(area, cells).enumerate();
+    states.filter(|&(_, state)| state == GATHERED).map(|(number, _)| number).collect()
+}
+
+/// As much as an image holds, on the largest table. The carried programs leave room for few.
+fn full() -> Scenario {
+    let shape = Shape { cells: CELLS, busy_cells: CELLS, programs: PROGRAMS, instructions: INSTRUCTIONS };
+    batch("A full batch: 64 programs of 32 instructions, 256 cells, Rule 2", shape, 0)
+}
+
+fn typical() -> Scenario {
+    let shape = Shape { cells: 64, busy_cells: 64, programs: 10, instructions: 8 };
+    batch("A typical batch: 10 programs of 8 instructions, 64 cells, Rule 2", shape, 5)
+}
+
+fn batch(name: &'static str, shape: Shape, fresh: usize) -> Scenario {
+    let mut random = Random::new(5);
+    let table = random::table(&mut random, shape.cells);
+    let image = assembler::image(2, &whole_programs(&mut random, shape, &table, shape.programs));
+    let fresh = assembler::image(2, &whole_programs(&mut random, shape, &table, fresh));
+    Scenario { name, programs: shape.programs, image, table, fresh, start: Start::Opening }
+}
+
+/// Programs that run on to a good end: none is rejected or faulted.
+fn whole_programs(random: &mut Random, shape: Shape, table: &[u32], count: usize) -> Vec<Vec<Instruction>> {
+    let mut programs = Vec::new();
+    while programs.len() < count {
+        let program = random::program_of_length(random, shape, shape.instructions);
+        let image = assembler::image(0, &[program.clone()]);
+        let mut area = vec![0; words(table.len(), 1)];
+        if plain::gather(&image, table, &mut area, 0).state == GATHERED {
+            programs.push(program);
+        }
+    }
+    programs
+}
+
+/// 64 committed programs with 32 reads and 32 stores each. Program i+1 reads, last of all, the cell
+/// that program i stores last, and no other store is read: every test of a pair goes to its end,
+/// and the listed order falls, so that each turn finds its program last.
+fn hostile() -> Scenario {
+    let mut scenario = full();
+    let mut area = vec![0; words(CELLS, PROGRAMS)];
+    let own_cell = |number: usize| (CELLS - PROGRAMS + number) as u32;
+    for (number, slot) in area[2 * CELLS..].chunks_exact_mut(SLOT_WORDS).enumerate() {
+        slot[STATE] = COMMITTED;
+        slot[READ_COUNT] = INSTRUCTIONS as u32;
+        slot[STORE_COUNT] = INSTRUCTIONS as u32;
+        for place in 0..INSTRUCTIONS {
+            slot[READS + place] = place as u32;
+            slot[STORES + place] = (INSTRUCTIONS + place) as u32;
+        }
+        if number > 0 {
+            slot[READS + INSTRUCTIONS - 1] = own_cell(number - 1);
+        }
+        slot[STORES + INSTRUCTIONS - 1] = own_cell(number);
+    }
+    scenario.name = "Hostile to the order: 64 committed programs with 32 reads and 32 stores each";
+    scenario.start = Start::MadeUpArea(area);
+    scenario
+}

@@ -1,0 +1,136 @@
+//! The archive's speed, held against the independent implementation, which makes the same checks, on
+//! the same input in one process.
+
+mod linked;
+mod scenarios;
+mod table;
+
+use linked::Archive;
+use plain::image::{LONGEST, PROGRAMS};
+use plain::refusal::DONE;
+use plain::{Count, Step};
+use scenarios::{gathered_programs, Scenario, Start, CALLS, GATHER, NEXT_IMAGE, OPEN, ORDER, SETTLE};
+use std::hint::black_box;
+use std::time::Instant;
+use table::Figures;
+
+/// Rounds that alternate between the two sides; the median of their times is printed.
+const ROUNDS: usize = 31;
+/// A call that can be repeated is made so often in a row.
+const REPEATS: usize = 20;
+
+/// The calls of one side.
+trait Calls {
+    fn open(&self, image: &[u8], table: &[u32], area: &mut [u32]) -> u32;
+    fn gather(&self, image: &[u8], table: &[u32], area: &mut [u32], number: usize) -> Step;
+    fn settle(&self, image: &[u8], table: &mut [u32], area: &mut [u32], number: usize) -> Step;
+    fn order(&self, image: &[u8], table: &[u32], area: &[u32], list: &mut [u32]) -> Count;
+    fn next_image(&self, image: &[u8], table: &[u32], area: &[u32], fresh: &[u8], out: &mut [u8]) -> Count;
+}
+
+struct Plain;
+
+impl Calls for Plain {
+    fn open(&self, image: &[u8], table: &[u32], area: &mut [u32]) -> u32 {
+        plain::open(image, table, area)
+    }
+    fn gather(&self, image: &[u8], table: &[u32], area: &mut [u32], number: usize) -> Step {
+        plain::gather(image, table, area, number)
+    }
+    fn settle(&self, image: &[u8], table: &mut [u32], area: &mut [u32], number: usize) -> Step {
+        plain::settle(image, table, area, number)
+    }
+    fn order(&self, image: &[u8], table: &[u32], area: &[u32], list: &mut [u32]) -> Count {
+        plain::order(image, table, area, list)
+    }
+    fn next_image(&self, image: &[u8], table: &[u32], area: &[u32], fresh: &[u8], out: &mut [u8]) -> Count {
+        plain::next_image(image, table, area, fresh, out)
+    }
+}
+
+/// One side's memory, which stays lent from round to round.
+#[derive(PartialEq)]
+struct Memory {
+    table: Vec<u32>,
+    area: Vec<u32>,
+    list: Vec<u32>,
+    out: Vec<u8>,
+}
+
+impl Memory {
+    fn of(scenario: &Scenario) -> Memory {
+        Memory {
+            table: scenario.table.clone(),
+            area: scenario.first_area(),
+            list: vec![0; PROGRAMS],
+            out: vec![0; LONGEST],
+        }
+    }
+}
+
+/// Runs the batch once on one side, and takes the nanoseconds of each kind of call.
+fn run(calls: &impl Calls, scenario: &Scenario, memory: &mut Memory) -> Figures {
+    let Scenario { image, fresh, programs, .. } = scenario;
+    let Memory { table, area, list, out } = memory;
+    table.copy_from_slice(&scenario.table);
+    let mut times = [None; CALLS.len()];
+    if let Start::Opening = scenario.start {
+        times[OPEN] = Some(per_call(REPEATS, |_| done(calls.open(image, table, area))));
+        let gather = |number: usize| done(calls.gather(image, table, area, number).refusal);
+        times[GATHER] = Some(per_call(*programs, gather));
+        let gathered = gathered_programs(area, table.len());
+        let settle = |place: usize| done(calls.settle(image, table, area, gathered[place]).refusal);
+        times[SETTLE] = Some(per_call(gathered.len(), settle));
+    }
+    times[ORDER] = Some(per_call(REPEATS, |_| done(calls.order(image, table, area, list).refusal)));
+    times[NEXT_IMAGE] =
+        Some(per_call(REPEATS, |_| done(calls.next_image(image, table, area, fresh, out).refusal)));
+    times
+}
+
+/// The time of so many calls in a row, per call.
+fn per_call(count: usize, mut call: impl FnMut(usize)) -> f64 {
+    let start = Instant::now();
+    for number in 0..count {
+        call(black_box(number));
+    }
+    start.elapsed().as_nanos() as f64 / count as f64
+}
+
+fn done(refusal: u32) {
+    assert_eq!(black_box(refusal), DONE, "no call of the benchmark is refused");
+}
+
+/// The medians of both sides, which take turns at going first.
+fn compare(scenario: &Scenario) -> [Figures; 2] {
+    let mut memories = [Memory::of(scenario), Memory::of(scenario)];
+    let [mut plain, mut other] = [Vec::new(), Vec::new()];
+    for round in 0..ROUNDS {
+        let [plain_memory, other_memory] = &mut memories;
+        if round % 2 == 0 {
+            plain.push(run(&Plain, scenario, plain_memory));
+            other.push(run(&Archive, scenario, other_memory));
+        } else {
+            other.push(run(&Archive, scenario, other_memory));
+            plain.push(run(&Plain, scenario, plain_memory));
+        }
+    }
+    assert!(memories[0] == memories[1], "both sides leave the same memory");
+    [medians(&plain), medians(&other)]
+}
+
+fn medians(rounds: &[Figures]) -> Figures {
+    std::array::from_fn(|call| {
+        let mut times: Vec<f64> = rounds.iter().filter_map(|times| times[call]).collect();
+        times.sort_by(f64::total_cmp);
+        times.get(times.len() / 2).copied()
+    })
+}
+
+fn main() {
+    println!("Time per call in nanoseconds, the median of {ROUNDS} rounds that alternate.");
+    println!("No buffer is cleared first: each call finds what the call before it left, in a warm cache.");
+    for scenario in scenarios::all() {
+        table::print(scenario.name, compare(&scenario));
+    }
+}

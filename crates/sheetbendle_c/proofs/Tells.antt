@@ -1,0 +1,92 @@
+-- What the Rattle call says is what the call for C tells, and the counts fit 32 bits. Assumes nothing.
+use Prim.Native.Nat.{ℕ, zero, suc, _≤_, _<_, _^_}
+use mathlib.Core.Path.{_≡_, refl, sym, ap, subst, _∙_}
+use mathlib.Core.Bool.{Bool, true, cond}
+use mathlib.Core.List.{List}
+use native.Mathlib.Omega.{arith}
+use lib.ListN.{length}
+use lib.Dec.{leb}
+use borrow.Author.Tests.{leb-true}
+use Rattle.base.specs.Words.{unless}
+use Rattle.base.proofs.Bools.{and-right}
+use Rattle.base.proofs.Counts.{count-le}
+use Rattle.image.specs.Limits.{minBytes, maxBytes}
+use Rattle.image.specs.Refusals.{refusing}
+use Rattle.image.specs.Image.{countOf, sizeGood}
+use Rattle.image.proofs.Laws.{accepted}
+use Rattle.steps.specs.declared.Gathered.{Gathered}
+use Rattle.steps.specs.declared.Settled.{Settled}
+use Rattle.steps.specs.Answers.{numbersOfGathered, numbersOfSettled}
+use Rattle.steps.specs.Gathering.{GatherSays}
+use Rattle.steps.specs.Settling.{SettleSays}
+use Rattle.listing.specs.declared.Listed.{Listed}
+use Rattle.listing.specs.declared.Listed.the-variants as listing
+use Rattle.listing.specs.Listing.{isCommitted, committedCount, orderOf, orderRefusal, orderAnswer, numbersOfListed, OrderSays}
+use Rattle.listing.proofs.Orders.{list-shows, order-shows, order-count}
+use Rattle.carry.specs.declared.Next.{Next}
+use Rattle.carry.specs.declared.Next.the-variants as carrying
+use Rattle.carry.specs.Next.{nextImage, nextRefusal, nextAnswer, numbersOfNext, NextSays}
+use Rattle.carry.proofs.Nexts.{next-good}
+use Rattle.numbers.specs.declared.StepNumbers.{StepNumbers}
+use Rattle.numbers.specs.Numbers.{Tells}
+use Rattle.sheetbendle_c.specs.declared.CountNumbers.{CountNumbers}
+use Rattle.sheetbendle_c.specs.Calls.{CountTells, GatherTells, SettleTells, OrderTells, NextTells}
+
+-- ---- the numbers are the answer's
+
+pub gather-tells : (image t a : List ℕ) (k : ℕ) (answer : Gathered) (a′ : List ℕ) (r : StepNumbers) → GatherSays image t a k answer a′
+    → Tells (numbersOfGathered answer) r → GatherTells image t a k r a′
+gather-tells image t a k answer a′ r says tells =
+    record { numbers = subst (λ (x : Gathered). Tells (numbersOfGathered x) r) (says .answer) tells; area = says .area }
+
+pub settle-tells : (image t a : List ℕ) (k : ℕ) (answer : Settled) (t′ a′ : List ℕ) (r : StepNumbers) → SettleSays image t a k answer t′ a′
+    → Tells (numbersOfSettled answer) r → SettleTells image t a k r t′ a′
+settle-tells image t a k answer t′ a′ r says tells =
+    record { numbers = subst (λ (x : Settled). Tells (numbersOfSettled x) r) (says .answer) tells; table = says .table; area = says .area }
+
+pub order-tells : (image t a list : List ℕ) (answer : Listed) (list′ : List ℕ) (r : CountNumbers) → OrderSays image t a list answer list′
+    → CountTells (numbersOfListed answer) r → OrderTells image t a list r list′
+order-tells image t a list answer list′ r says tells =
+    record { numbers = subst (λ (x : Listed). CountTells (numbersOfListed x) r) (says .answer) tells; entries = says .entries }
+
+pub next-tells : (image t a fresh out : List ℕ) (answer : Next) (out′ : List ℕ) (r : CountNumbers) → NextSays image t a fresh out answer out′
+    → CountTells (numbersOfNext answer) r → NextTells image t a fresh out r out′
+next-tells image t a fresh out answer out′ r says tells =
+    record { numbers = subst (λ (x : Next). CountTells (numbersOfNext x) r) (says .answer) tells; bytes = says .bytes }
+
+-- ---- the counts are small: an order has at most 64 entries, an image at most 8326 bytes
+
+few-listed : (image t a list : List ℕ) → orderRefusal image t a list ≡ 0 → length (orderOf (length t) (countOf image) a) < 2 ^ 32
+unfolding committedCount
+few-listed image t a list e =
+    let checked = list-shows image t a list (order-shows image t a list e .0) .0 in
+    omega (arith, order-count image t a list e, count-le (isCommitted (length t) a) (countOf image), checked .programs)
+
+pub order-small : (image t a list : List ℕ) (answer : Listed) (list′ : List ℕ) → OrderSays image t a list answer list′
+    → numbersOfListed answer .count < 2 ^ 32
+unfolding orderAnswer
+order-small image t a list answer list′ says =
+    subst (λ (x : Listed). numbersOfListed x .count < 2 ^ 32) (sym (says .answer)) (go (orderRefusal image t a list) refl)
+  where
+    go : (r : ℕ) → orderRefusal image t a list ≡ r
+        → numbersOfListed (unless r (λ r. listing.Refused (refusing r)) (listing.Count (length (orderOf (length t) (countOf image) a)))) .count < 2 ^ 32
+    go zero e = few-listed image t a list e
+    go (suc r) e = omega arith
+
+short-next : (image t a fresh out : List ℕ) → nextRefusal image t a fresh out ≡ 0 → length (nextImage (length t) image a fresh) < 2 ^ 32
+unfolding sizeGood
+short-next image t a fresh out e =
+    let i = nextImage (length t) image a fresh in
+    let short : length i ≤ maxBytes = leb-true (length i) maxBytes (and-right (leb minBytes (length i)) (leb (length i) maxBytes) (accepted i (next-good image t a fresh out e) .size)) in
+    omega arith
+
+pub next-small : (image t a fresh out : List ℕ) (answer : Next) (out′ : List ℕ) → NextSays image t a fresh out answer out′
+    → numbersOfNext answer .count < 2 ^ 32
+unfolding nextAnswer
+next-small image t a fresh out answer out′ says =
+    subst (λ (x : Next). numbersOfNext x .count < 2 ^ 32) (sym (says .answer)) (go (nextRefusal image t a fresh out) refl)
+  where
+    go : (r : ℕ) → nextRefusal image t a fresh out ≡ r
+        → numbersOfNext (unless r (λ r. carrying.Refused (refusing r)) (carrying.Length (length (nextImage (length t) image a fresh)))) .count < 2 ^ 32
+    go zero e = short-next image t a fresh out e
+    go (suc r) e = omega arith

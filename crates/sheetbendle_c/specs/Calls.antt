@@ -1,0 +1,42 @@
+-- The calls for C: each returns the numbers of the Rattle call under it, and leaves the memory that it leaves. Assumes nothing.
+use Prim.Native.Nat.{ℕ}
+use mathlib.Core.Path.{_≡_}
+use mathlib.Core.List.{List}
+use lib.ListN.{length}
+use Rattle.image.specs.Refusals.{Counted}
+use Rattle.image.specs.Image.{programOf, startOf}
+use Rattle.steps.specs.Answers.{numbersOfGathered, numbersOfSettled}
+use Rattle.steps.specs.Gathering.{gatherAnswer, gatherArea}
+use Rattle.steps.specs.Settling.{settleAnswer, settleTable, settleArea}
+use Rattle.listing.specs.Listing.{orderAnswer, orderList, numbersOfListed}
+use Rattle.carry.specs.Next.{nextAnswer, nextOut, numbersOfNext}
+use Rattle.numbers.specs.declared.StepNumbers.{StepNumbers}
+use Rattle.numbers.specs.Numbers.{Tells}
+use Rattle.sheetbendle_c.specs.declared.PartNumbers.{PartNumbers}
+use Rattle.sheetbendle_c.specs.declared.CountNumbers.{CountNumbers}
+
+-- of a program: where its part of the image begins and how long it is, 0 and 0 on a refusal
+pub record PartTells (image : List ℕ) (k : ℕ) (r : PartNumbers) : Type 0 where
+  pub start : r .start ≡ startOf image k
+  pub extent : r .length ≡ length (programOf image k)
+
+pub record CountTells (numbers : Counted) (r : CountNumbers) : Type 0 where
+  pub refusal : r .refusal ≡ numbers .refusal
+  pub count : r .count ≡ numbers .count
+
+pub record GatherTells (image t a : List ℕ) (k : ℕ) (r : StepNumbers) (a′ : List ℕ) : Type 0 where
+  pub numbers : Tells (numbersOfGathered (gatherAnswer image t a k)) r
+  pub area : a′ ≡ gatherArea image t a k
+
+pub record SettleTells (image t a : List ℕ) (k : ℕ) (r : StepNumbers) (t′ a′ : List ℕ) : Type 0 where
+  pub numbers : Tells (numbersOfSettled (settleAnswer image t a k)) r
+  pub table : t′ ≡ settleTable image t a k
+  pub area : a′ ≡ settleArea image t a k
+
+pub record OrderTells (image t a list : List ℕ) (r : CountNumbers) (list′ : List ℕ) : Type 0 where
+  pub numbers : CountTells (numbersOfListed (orderAnswer image t a list)) r
+  pub entries : list′ ≡ orderList image t a list
+
+pub record NextTells (image t a fresh out : List ℕ) (r : CountNumbers) (out′ : List ℕ) : Type 0 where
+  pub numbers : CountTells (numbersOfNext (nextAnswer image t a fresh out)) r
+  pub bytes : out′ ≡ nextOut image t a fresh out

@@ -1,0 +1,129 @@
+// The library for C: include/sheetbendle.h declares these functions. A slice is a pointer and a length there.
+ghost use mathlib.Core.Path.{_≡_};
+ghost use Prim.Native.Nat.{_^_, _<_};
+ghost use Rattle.image.specs.Refusals.{Counted};
+ghost use Rattle.image.specs.Image.{ProgramRefusalSays};
+ghost use Rattle.steps.specs.Opening.{OpenSays};
+ghost use Rattle.listing.specs.Listing.{numbersOfListed};
+ghost use Rattle.carry.specs.Next.{numbersOfNext};
+ghost use Rattle.sheetbendle_c.specs.Calls.{PartTells, CountTells, GatherTells, SettleTells, OrderTells, NextTells};
+
+// Where a program's part of the image begins, and how long it is.
+#[repr(C)]
+pub struct PartNumbers {
+    pub start: usize,
+    pub length: usize,
+}
+
+// The refusal, or 0 with the order's count or the next image's length.
+#[repr(C)]
+pub struct CountNumbers {
+    pub refusal: u32,
+    pub count: u32,
+}
+
+#[no_mangle]
+pub extern "C" fn sheetbendle_program(image: &[u8], number: usize) -> PartNumbers
+    ensures { λ r. ⌜ PartTells (now (image .entry)) number r ⌝ }
+{
+    let length = image::program(image, number).len();
+    let start = image::program_start(image, number);
+    PartNumbers { start, length }
+}
+
+#[no_mangle]
+pub extern "C" fn sheetbendle_program_refusal(image: &[u8], number: usize) -> u32
+    ensures { λ r. ⌜ ProgramRefusalSays (now (image .entry)) number r ⌝ }
+{
+    image::program_refusal(image, number)
+}
+
+#[no_mangle]
+pub extern "C" fn sheetbendle_open(image: &[u8], table: &[u32], area: &mut [u32]) -> u32
+    ensures { λ r. ⌜ OpenSays (now (image .entry)) (now (table .entry)) (now (area .entry)) r (now (area .exit)) ⌝ }
+{
+    steps::open(image, table, area)
+}
+
+#[no_mangle]
+pub extern "C" fn sheetbendle_gather(
+    image: &[u8],
+    table: &[u32],
+    area: &mut [u32],
+    number: usize,
+) -> numbers::StepNumbers
+    ensures { λ r. ⌜ GatherTells (now (image .entry)) (now (table .entry)) (now (area .entry)) number r (now (area .exit)) ⌝ }
+{
+    numbers::of_gathered(steps::gather(image, table, area, number))
+}
+
+#[no_mangle]
+pub extern "C" fn sheetbendle_settle(
+    image: &[u8],
+    table: &mut [u32],
+    area: &mut [u32],
+    number: usize,
+) -> numbers::StepNumbers
+    ensures { λ r. ⌜ SettleTells (now (image .entry)) (now (table .entry)) (now (area .entry)) number r (now (table .exit)) (now (area .exit)) ⌝ }
+{
+    numbers::of_settled(steps::settle(image, table, area, number))
+}
+
+// The numbers of the listed order's answer.
+fn of_listed(answer: listing::Listed) -> CountNumbers
+    requires { ⌜ numbersOfListed answer .count < 2 ^ 32 ⌝ }
+    ensures { λ r. ⌜ CountTells (numbersOfListed answer) r ⌝ }
+{
+    match answer {
+        listing::Listed::Refused(refusal) => CountNumbers {
+            refusal: refusal.number,
+            count: 0,
+        },
+        listing::Listed::Count(count) => CountNumbers {
+            refusal: 0,
+            count: count as u32,
+        },
+    }
+}
+
+#[no_mangle]
+pub extern "C" fn sheetbendle_order(
+    image: &[u8],
+    table: &[u32],
+    area: &[u32],
+    list: &mut [u32],
+) -> CountNumbers
+    ensures { λ r. ⌜ OrderTells (now (image .entry)) (now (table .entry)) (now (area .entry)) (now (list .entry)) r (now (list .exit)) ⌝ }
+{
+    of_listed(listing::order(image, table, area, list))
+}
+
+// The numbers of the next image's answer.
+fn of_next(answer: carry::Next) -> CountNumbers
+    requires { ⌜ numbersOfNext answer .count < 2 ^ 32 ⌝ }
+    ensures { λ r. ⌜ CountTells (numbersOfNext answer) r ⌝ }
+{
+    match answer {
+        carry::Next::Refused(refusal) => CountNumbers {
+            refusal: refusal.number,
+            count: 0,
+        },
+        carry::Next::Length(length) => CountNumbers {
+            refusal: 0,
+            count: length as u32,
+        },
+    }
+}
+
+#[no_mangle]
+pub extern "C" fn sheetbendle_next_image(
+    image: &[u8],
+    table: &[u32],
+    area: &[u32],
+    fresh: &[u8],
+    out: &mut [u8],
+) -> CountNumbers
+    ensures { λ r. ⌜ NextTells (now (image .entry)) (now (table .entry)) (now (area .entry)) (now (fresh .entry)) (now (out .entry)) r (now (out .exit)) ⌝ }
+{
+    of_next(carry::next_image(image, table, area, fresh, out))
+}

@@ -1,0 +1,83 @@
+// Runs the stored inputs of data/ through the batch program's work; its output is held to what an independent implementation printed (tests/vectors).
+// A pack is a list of inputs: four bytes of length, low first, and then the bytes.
+
+ghost use mathlib.Core.Path.{_≡_};
+ghost use Prim.Native.Nat.{_≤_, _<_};
+ghost use lib.ListN.{length};
+
+// Room for the longest input of a pack.
+const ROOM: usize = 16384;
+
+fn wide(byte: u8) -> usize
+    ensures { λ r. ⌜ r < 256 ⌝ }
+{
+    byte as usize
+}
+
+// The length of the next input, ROOM where it is longer.
+fn length_of(head: &[u8; 4]) -> usize
+    ensures { λ r. ⌜ r ≤ 16384 ⌝ }
+{
+    let n = wide(head[0]) + 256 * wide(head[1]) + 65536 * wide(head[2]) + 16777216 * wide(head[3]);
+    if ROOM < n {
+        return ROOM;
+    }
+    n
+}
+
+// Room for an input.
+fn room() -> [u8; ROOM]
+    ensures { λ r. ⌜ 16384 ≡ length r ⌝ }
+{
+    [0; ROOM]
+}
+
+// Reads an input that fills what is lent, and runs it.
+fn run_input(pack: i32, input: &mut [u8]) {
+    let got = io::read_full(pack, input);
+    report::print_batch(&input[..got]);
+}
+
+// Runs the next input of a pack, and answers whether there was one.
+fn run_next(pack: i32, name: &[u8], number: u64) -> bool {
+    let mut head = [0u8; 4];
+    if io::read_full(pack, &mut head) < 4 {
+        return false;
+    }
+    io::write_all(1, name);
+    io::write_all(1, b" ");
+    io::print_decimal(1, number);
+    io::write_all(1, b"\n");
+    let mut space = room();
+    let n = length_of(&head);
+    run_input(pack, &mut space[..n]);
+    true
+}
+
+// Runs every input of a pack. No pack has as many as the loop would take.
+fn run_all(pack: i32, name: &[u8]) {
+    let mut number: u64 = 0;
+    while number < 1000000 {
+        if !run_next(pack, name, number) {
+            return;
+        }
+        number += 1;
+    }
+}
+
+fn run_pack(file: &[u8], name: &[u8]) {
+    let pack = os::open_read(file);
+    if pack < 0 {
+        os::fail(file);
+        return;
+    }
+    run_all(pack, name);
+    libc::close(pack);
+}
+
+fn main() {
+    run_pack(b"bench.pack", b"bench");
+    run_pack(b"good.pack", b"good");
+    run_pack(b"edge.pack", b"edge");
+    run_pack(b"damaged.pack", b"damaged");
+}

@@ -1,0 +1,207 @@
+/*
+ * Sheetbendle for C: runs one batch of small programs against a table of 32-bit cells.
+ *
+ * A board makes the calls in this order, once per batch:
+ *
+ *     sheetbendle_open         clears the work area
+ *     sheetbendle_gather       once for each program, in any order: runs it, notes its reads and stores
+ *     sheetbendle_settle       once for each program that is then gathered, in any order: commits or carries it
+ *     sheetbendle_order        the committed programs, as if they had run one after the other
+ *     sheetbendle_next_image   the carried programs and the fresh ones, as the next batch
+ *
+ * sheetbendle_program and sheetbendle_program_refusal need only the image and can be called at any time.
+ *
+ * Who owns what. The caller owns every buffer. The library keeps nothing between calls, has no
+ * memory of its own and never asks for any; a batch lives in its image, table and area alone. So
+ * several batches can be under way at once, each with its own buffers. From its opening to its next
+ * image a batch is lent the same image, table and area at every call, and nobody else changes them.
+ *
+ * Buffers. The buffers of one call must not overlap. Each pointer goes with its length: in bytes
+ * for an image, in cells for a table, in words for an area, in entries for a list. A null pointer
+ * goes with length 0. A buffer of words is aligned as uint32_t asks.
+ *
+ * Refusals. Every call may be lent anything: it checks first, in the order of the numbers below
+ * (the next image: 1 to 7, 9, 21 to 24, 11, 10), and the first that holds is returned. A refused
+ * call changes no lent memory, and every other number it returns is 0.
+ *
+ *     no.   when exactly                                                              from
+ *      0    done                                                                      all
+ *      1    image under 6 or over 8326 bytes                                          all
+ *      2    program count over 64, rule over 2, or byte 3 not 0                       all
+ *      3    image under 2n+6 bytes, or an offset rule broken                          all
+ *      4    some instruction is bad                                                   all
+ *      5    table of 0 or over 256 cells                                              all but program
+ *      6    area is not 2T + 100n words                                               all but program
+ *      7    a mark over n, a state over 5, a count over 32, or a cell of T or more    gather, settle, order,
+ *           among the counted ones                                                    next_image
+ *      8    program number n or more                                                  program, gather, settle
+ *      9    gather: this state is not 0; settle: some state is 0, or this one is      gather, settle, order,
+ *           not 1; order and next image: some state is 0 or 1                         next_image
+ *     10    list under n entries; output shorter than the next image                  order, next_image
+ *     11    carried plus fresh programs over 64                                       next_image
+ *     12    no order exists (never for an area that these calls made on this image)   order
+ *     21-24 as 1 to 4, for the fresh image                                            next_image
+ *
+ * T is the number of cells and n the number of programs.
+ *
+ * The image. All numbers are 16 bits, low byte first. Bytes 0 and 1: the program count n. Byte 2:
+ * the rule, 1 or 2, or 0, which means Rule 1. Byte 3: 0. Then n+1 offsets. Program i is the bytes
+ * from offset i up to, not including, offset i+1. The offset rules: the first offset is 2n+6,
+ * offsets never fall, each length is a multiple of 4 and at most 128, the last offset is the
+ * image's length. An instruction is four bytes: operation, a, b, c.
+ *
+ *     0 end        stops; a, b, c are 0
+ *     1 set        r[a] = 256 * b + c
+ *     2 load       r[a] = cell number r[b]; c is 0
+ *     3 store      cell number r[a] = r[b]; c is 0
+ *     4 add        r[a] = r[b] + r[c], modulo 2^32
+ *     5 sub        r[a] = r[b] - r[c], modulo 2^32
+ *     6 skipless   if r[a] < r[b], leaves out the next c instructions
+ *     7 skipequal  the same if r[a] = r[b]
+ *     8 reject     stops, code a; b and c are 0
+ *
+ * Any other operation is bad, and so is a register over 7, a byte that is not 0 where the list says
+ * 0, and a skip past the program's end.
+ */
+#ifndef SHEETBENDLE_H
+#define SHEETBENDLE_H
+
+#include <stddef.h>
+#include <stdint.h>
+
+#ifdef __cplusplus
+extern "C" {
+#endif
+
+/* Limits. */
+#define SHEETBENDLE_PROGRAMS 64     /* the most programs of an image */
+#define SHEETBENDLE_INSTRUCTIONS 32 /* the most instructions of a program, of 4 bytes each */
+#define SHEETBENDLE_REGISTERS 8     /* registers of a program, all 0 at its start */
+#define SHEETBENDLE_CELLS 256       /* the most cells of a table; the fewest is 1 */
+
+/* The bytes of an image of so many programs and, together, so many instructions. */
+#define SHEETBENDLE_IMAGE_BYTES(programs, instructions) (2u * (programs) + 6u + 4u * (instructions))
+#define SHEETBENDLE_SHORTEST_IMAGE SHEETBENDLE_IMAGE_BYTES(0u, 0u) /* 6 bytes */
+#define SHEETBENDLE_LONGEST_IMAGE \
+    SHEETBENDLE_IMAGE_BYTES(SHEETBENDLE_PROGRAMS, SHEETBENDLE_PROGRAMS * SHEETBENDLE_INSTRUCTIONS) /* 8326 bytes */
+
+/* The words of an area: T write marks, T read marks, and a slot for each program. */
+#define SHEETBENDLE_SLOT_WORDS 100u
+#define SHEETBENDLE_AREA_WORDS(cells, programs) (2u * (cells) + SHEETBENDLE_SLOT_WORDS * (programs))
+
+/* Refusals; the table above says when. */
+#define SHEETBENDLE_DONE 0u
+#define SHEETBENDLE_REFUSED_IMAGE_SIZE 1u
+#define SHEETBENDLE_REFUSED_HEADER 2u
+#define SHEETBENDLE_REFUSED_OFFSETS 3u
+#define SHEETBENDLE_REFUSED_INSTRUCTION 4u
+#define SHEETBENDLE_REFUSED_TABLE_SIZE 5u
+#define SHEETBENDLE_REFUSED_AREA_SIZE 6u
+#define SHEETBENDLE_REFUSED_AREA 7u
+#define SHEETBENDLE_REFUSED_NUMBER 8u
+#define SHEETBENDLE_REFUSED_STATE 9u
+#define SHEETBENDLE_REFUSED_TOO_SHORT 10u
+#define SHEETBENDLE_REFUSED_TOO_MANY 11u
+#define SHEETBENDLE_REFUSED_NO_ORDER 12u
+#define SHEETBENDLE_REFUSED_FRESH_IMAGE_SIZE 21u
+#define SHEETBENDLE_REFUSED_FRESH_HEADER 22u
+#define SHEETBENDLE_REFUSED_FRESH_OFFSETS 23u
+#define SHEETBENDLE_REFUSED_FRESH_INSTRUCTION 24u
+
+/* States of a program, with what its detail then says. */
+#define SHEETBENDLE_WAITING 0u   /* 0 */
+#define SHEETBENDLE_GATHERED 1u  /* 0 */
+#define SHEETBENDLE_REJECTED 2u  /* the code that the program rejected with */
+#define SHEETBENDLE_FAULTED 3u   /* 256 * kind + instruction number, from 0; a cell of T or more was named */
+#define SHEETBENDLE_COMMITTED 4u /* 0 */
+#define SHEETBENDLE_CARRIED 5u   /* the reason */
+
+/* Kinds of faults. */
+#define SHEETBENDLE_FAULT_AT_LOAD 1u
+#define SHEETBENDLE_FAULT_AT_STORE 2u
+
+/* Reasons to carry a program. "Earlier" means a smaller number. */
+#define SHEETBENDLE_WAW 1u          /* an earlier program stores a cell that it stores; looked at first */
+#define SHEETBENDLE_RAW 2u          /* Rule 1: an earlier program stores a cell that it reads */
+#define SHEETBENDLE_RAW_WITH_WAR 3u /* Rule 2: that, and an earlier program reads a cell that it stores */
+
+/* What gathering and settling return. */
+typedef struct {
+    uint32_t refusal, state, detail;
+} sheetbendle_step;
+
+/* What the order and the next image return: a count of entries, a length in bytes. */
+typedef struct {
+    uint32_t refusal, count;
+} sheetbendle_count;
+
+/* A part of the image: where it starts and how many bytes it has; 0, 0 on a refusal. */
+typedef struct {
+    size_t start, length;
+} sheetbendle_part;
+
+/*
+ * Where a program lies in the image, by its number from 0. A program may be empty; whether the
+ * call was refused, sheetbendle_program_refusal tells.
+ */
+sheetbendle_part sheetbendle_program(const uint8_t *image, size_t image_bytes, size_t number);
+
+/* The refusal of the same question: 1 to 4 or 8; or 0. */
+uint32_t sheetbendle_program_refusal(const uint8_t *image, size_t image_bytes, size_t number);
+
+/*
+ * Opens a batch: sets the whole area to 0. What stood in the area before does not matter. Returns
+ * the refusal: 1 to 6; or 0.
+ */
+uint32_t sheetbendle_open(const uint8_t *image, size_t image_bytes,
+                          const uint32_t *table, size_t cells,
+                          uint32_t *area, size_t words);
+
+/*
+ * Gathers one waiting program: runs it on the table, rewrites its slot in the area and makes its
+ * reservations there. The table does not change. Returns the state, which is gathered, rejected
+ * or faulted, and the detail; or a refusal: 1 to 9.
+ */
+sheetbendle_step sheetbendle_gather(const uint8_t *image, size_t image_bytes,
+                                    const uint32_t *table, size_t cells,
+                                    uint32_t *area, size_t words,
+                                    size_t number);
+
+/*
+ * Settles one gathered program, once no program is waiting: commits it, and its stores go into the
+ * table, or carries it. Of the area only this program's state and detail change. Returns both; or
+ * a refusal: 1 to 9.
+ */
+sheetbendle_step sheetbendle_settle(const uint8_t *image, size_t image_bytes,
+                                    uint32_t *table, size_t cells,
+                                    uint32_t *area, size_t words,
+                                    size_t number);
+
+/*
+ * Lists the committed programs' numbers in an order in which they could have run one after the
+ * other, each on the table that the one before it left, with the same loads, stores and end table.
+ * The list has at least n entries; those beyond the returned count stay as they are. Returns the
+ * count; or a refusal: 1 to 7, 9, 10, 12.
+ */
+sheetbendle_count sheetbendle_order(const uint8_t *image, size_t image_bytes,
+                                    const uint32_t *table, size_t cells,
+                                    const uint32_t *area, size_t words,
+                                    uint32_t *list, size_t entries);
+
+/*
+ * Writes the next batch's image: the carried programs in number order, then the fresh image's
+ * programs, under the fresh image's rule byte. An output of SHEETBENDLE_LONGEST_IMAGE bytes is
+ * always long enough; its bytes beyond the returned length stay as they are. Returns the length;
+ * or a refusal: 1 to 7, 9, 21 to 24, 11, 10.
+ */
+sheetbendle_count sheetbendle_next_image(const uint8_t *image, size_t image_bytes,
+                                         const uint32_t *table, size_t cells,
+                                         const uint32_t *area, size_t words,
+                                         const uint8_t *fresh, size_t fresh_bytes,
+                                         uint8_t *out, size_t out_bytes);
+
+#ifdef __cplusplus
+}
+#endif
+
+#endif

@@ -1,0 +1,154 @@
+/*
+ * Makes the archive's calls for a process that cannot link it: each call comes as one frame on
+ * standard input and goes back as one frame on standard output. The lent buffers lie inside the
+ * frame, each between guards, and the whole frame goes back as the call left it. So this program
+ * compares nothing: whoever sent the frame sees every byte that changed. tests/archive/frame.rs is
+ * the other end.
+ */
+#include <sheetbendle.h>
+#include <signal.h>
+#include <stdio.h>
+#include <unistd.h>
+
+enum { PROGRAM, PROGRAM_REFUSAL, OPEN, GATHER, SETTLE, ORDER, NEXT_IMAGE };
+enum { TABLE, AREA, LIST, IMAGE, FRESH, OUT, BUFFERS };
+enum { NOTHING, STACK, INSTRUCTIONS };
+
+/* A call that takes more seconds than this is taken to hang, and ends this program. Counting instructions may take long. */
+#define LIMIT 60
+#define NO_LIMIT 0
+
+/* Room for the largest buffers that are lent, with their guards. */
+#define ROOM (256 * 1024)
+
+static struct {
+    uint64_t bytes; /* of the frame */
+    uint64_t call, number, null_when_empty, measure;
+    uint64_t results[3], measured;
+    struct {
+        uint64_t start, length; /* in bytes of the memory; in bytes or words */
+    } lent[BUFFERS];
+    uint32_t memory[ROOM / 4];
+} frame;
+
+/* Where a buffer lies: a null pointer goes with length 0, if the frame asks for that. */
+static void *place(int buffer) {
+    if (frame.lent[buffer].length == 0 && frame.null_when_empty)
+        return NULL;
+    return (uint8_t *)frame.memory + frame.lent[buffer].start;
+}
+
+/* A buffer as the calls take it: pointer and length. */
+#define LENT(buffer) place(buffer), frame.lent[buffer].length
+
+static void results(uint64_t first, uint64_t second, uint64_t third) {
+    frame.results[0] = first;
+    frame.results[1] = second;
+    frame.results[2] = third;
+}
+
+static void step_results(sheetbendle_step step) {
+    results(step.refusal, step.state, step.detail);
+}
+
+static void count_results(sheetbendle_count count) {
+    results(count.refusal, count.count, 0);
+}
+
+static void part_results(sheetbendle_part part) {
+    results(part.start, part.length, 0);
+}
+
+/* Inlined where it is used, so that the stack is measured from that very frame. */
+static inline __attribute__((always_inline)) void make_call(void) {
+    switch (frame.call) {
+    case PROGRAM: part_results(sheetbendle_program(LENT(IMAGE), frame.number)); break;
+    case PROGRAM_REFUSAL: results(sheetbendle_program_refusal(LENT(IMAGE), frame.number), 0, 0); break;
+    case OPEN: results(sheetbendle_open(LENT(IMAGE), LENT(TABLE), LENT(AREA)), 0, 0); break;
+    case GATHER: step_results(sheetbendle_gather(LENT(IMAGE), LENT(TABLE), LENT(AREA), frame.number)); break;
+    case SETTLE: step_results(sheetbendle_settle(LENT(IMAGE), LENT(TABLE), LENT(AREA), frame.number)); break;
+    case ORDER: count_results(sheetbendle_order(LENT(IMAGE), LENT(TABLE), LENT(AREA), LENT(LIST))); break;
+    case NEXT_IMAGE:
+        count_results(sheetbendle_next_image(LENT(IMAGE), LENT(TABLE), LENT(AREA), LENT(FRESH), LENT(OUT)));
+        break;
+    }
+}
+
+#define PAINTED (64 * 1024)
+#define PAINT 0xC3
+
+static uintptr_t lowest_painted;
+
+/* Paints the stack below the caller. */
+static __attribute__((noinline)) void paint(void) {
+    volatile uint8_t below[PAINTED];
+    size_t i;
+    for (i = 0; i < PAINTED; i++)
+        below[i] = PAINT;
+    lowest_painted = (uintptr_t)below;
+}
+
+/* The lowest address that is no longer paint. What is read is dead stack, which nothing but the call used. */
+static uintptr_t lowest_used(void) {
+    uintptr_t lowest = lowest_painted;
+    while (*(volatile uint8_t *)lowest == PAINT)
+        lowest++;
+    return lowest;
+}
+
+/* Makes the call; returns how many bytes below this frame it went. */
+static __attribute__((noinline)) uint64_t stack_of_call(void) {
+    uintptr_t frame_end;
+    paint();
+    __asm__ volatile("mov %%rsp, %0" : "=r"(frame_end));
+    make_call();
+    return frame_end - lowest_used();
+}
+
+static volatile uint64_t instructions;
+
+static void count_instruction(int signal_number) {
+    (void)signal_number;
+    instructions++;
+}
+
+/*
+ * The processor's trap flag: while it is set, SIGTRAP follows every instruction. Changed only in a
+ * function that calls others, where nothing lies below the stack pointer.
+ */
+#define TRAP_FLAG "$0x100"
+#define NO_TRAP_FLAG "$0xfffffffffffffeff"
+#define CHANGE_FLAGS(operation, mask) __asm__ volatile("pushfq; " operation " " mask ", (%%rsp); popfq" ::: "memory", "cc")
+
+/* Makes the call; returns how many instructions it took, some thirty of this program's own among them. */
+static __attribute__((noinline)) uint64_t instructions_of_call(void) {
+    instructions = 0;
+    signal(SIGTRAP, count_instruction);
+    CHANGE_FLAGS("orq", TRAP_FLAG);
+    make_call();
+    CHANGE_FLAGS("andq", NO_TRAP_FLAG);
+    return instructions;
+}
+
+/* Reads the next frame; returns whether a whole one came. */
+static int read_frame(void) {
+    size_t head = sizeof frame.bytes;
+    if (fread(&frame, head, 1, stdin) != 1 || frame.bytes > sizeof frame)
+        return 0;
+    return fread((uint8_t *)&frame + head, frame.bytes - head, 1, stdin) == 1;
+}
+
+int main(void) {
+    while (read_frame()) {
+        alarm(frame.measure == INSTRUCTIONS ? NO_LIMIT : LIMIT);
+        switch (frame.measure) {
+        case NOTHING: make_call(); break;
+        case STACK: frame.measured = stack_of_call(); break;
+        case INSTRUCTIONS: frame.measured = instructions_of_call(); break;
+        }
+        alarm(NO_LIMIT);
+        if (fwrite(&frame, frame.bytes, 1, stdout) != 1 || fflush(stdout) != 0)
+            return 1;
+    }
+    return 0;
+}

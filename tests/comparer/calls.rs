@@ -1,0 +1,62 @@
+//! The seven calls, made on the independent implementation or on the archive.
+
+use crate::lent::Lent;
+use archive::Archive;
+use plain::{Count, Step};
+use std::ops::Range;
+
+#[derive(Clone, Copy, Debug)]
+pub enum Call {
+    Program(usize),
+    ProgramRefusal(usize),
+    Open,
+    Gather(usize),
+    Settle(usize),
+    Order,
+    NextImage,
+}
+
+#[derive(Clone, Debug, PartialEq)]
+pub enum Answer {
+    Part(Range<usize>),
+    Refusal(u32),
+    Step(Step),
+    Count(Count),
+}
+
+/// Makes a call on the independent implementation.
+pub fn on_plain(call: Call, lent: &mut Lent) -> Answer {
+    let Lent { image, table, area, list, fresh, out } = lent;
+    let image = image.lent();
+    match call {
+        Call::Program(number) => Answer::Part(part_of(image, plain::program(image, number))),
+        Call::ProgramRefusal(number) => Answer::Refusal(plain::program_refusal(image, number)),
+        Call::Open => Answer::Refusal(plain::open(image, table.lent(), area.lent_mut())),
+        Call::Gather(number) => Answer::Step(plain::gather(image, table.lent(), area.lent_mut(), number)),
+        Call::Settle(number) => Answer::Step(plain::settle(image, table.lent_mut(), area.lent_mut(), number)),
+        Call::Order => Answer::Count(plain::order(image, table.lent(), area.lent(), list.lent_mut())),
+        Call::NextImage => {
+            Answer::Count(plain::next_image(image, table.lent(), area.lent(), fresh.lent(), out.lent_mut()))
+        }
+    }
+}
+
+/// Makes a call on the archive.
+pub fn on_archive(archive: &mut Archive, call: Call, lent: &mut Lent) -> Answer {
+    let Lent { image, table, area, list, fresh, out } = lent;
+    match call {
+        Call::Program(number) => Answer::Part(archive.program(image, number)),
+        Call::ProgramRefusal(number) => Answer::Refusal(archive.program_refusal(image, number)),
+        Call::Open => Answer::Refusal(archive.open(image, table, area)),
+        Call::Gather(number) => Answer::Step(archive.gather(image, table, area, number)),
+        Call::Settle(number) => Answer::Step(archive.settle(image, table, area, number)),
+        Call::Order => Answer::Count(archive.order(image, table, area, list)),
+        Call::NextImage => Answer::Count(archive.next_image(image, table, area, fresh, out)),
+    }
+}
+
+/// Where a part of an image lies in it.
+fn part_of(image: &[u8], part: &[u8]) -> Range<usize> {
+    let start = part.as_ptr() as usize - image.as_ptr() as usize;
+    start..start + part.len()
+}

@@ -1,0 +1,150 @@
+//! What was seen: how often each call gave each refusal, and how often each outcome came.
+
+use crate::calls::{Answer, Call};
+use crate::lent::Lent;
+use plain::area::{CARRIED, COMMITTED, FAULTED, GATHERED, REJECTED};
+use plain::machine::{FAULT_AT_LOAD, FAULT_AT_STORE};
+use plain::refusal::DONE;
+use plain::steps::{RAW, RAW_WITH_WAR, WAW};
+use std::collections::BTreeMap;
+use std::fmt;
+
+/// Each call with the refusals that it can give: document 01, "What each refusal says".
+const REFUSALS: [(&str, &[u32]); 7] = [
+    ("program", &[0, 1, 2, 3, 4, 8]),
+    ("program_refusal", &[0, 1, 2, 3, 4, 8]),
+    ("open", &[0, 1, 2, 3, 4, 5, 6]),
+    ("gather", &[0, 1, 2, 3, 4, 5, 6, 7, 8, 9]),
+    ("settle", &[0, 1, 2, 3, 4, 5, 6, 7, 8, 9]),
+    ("order", &[0, 1, 2, 3, 4, 5, 6, 7, 9, 10, 12]),
+    ("next_image", &[0, 1, 2, 3, 4, 5, 6, 7, 9, 10, 11, 21, 22, 23, 24]),
+];
+
+/// What may come of a call that is done.
+const OUTCOMES: [&str; 11] = [
+    "gathered",
+    "rejected",
+    "faulted at a load",
+    "faulted at a store",
+    "committed",
+    "carried for WAW",
+    "carried for RAW",
+    "carried for RAW with WAR",
+    "order empty",
+    "order rising",
+    "order not rising",
+];
+
+#[derive(Default)]
+pub struct Tally {
+    refusals: BTreeMap<(&'static str, u32), u64>,
+    outcomes: BTreeMap<&'static str, u64>,
+}
+
+impl Tally {
+    /// Notes a call, its answer, and the memory after it.
+    pub fn note(&mut self, call: Call, answer: &Answer, lent: &Lent) {
+        let refusal = refusal_of(call, answer, lent);
+        *self.refusals.entry((name(call), refusal)).or_default() += 1;
+        if refusal == DONE {
+            if let Some(outcome) = outcome(answer, call, lent) {
+                *self.outcomes.entry(outcome).or_default() += 1;
+            }
+        }
+    }
+
+    pub fn calls(&self) -> u64 {
+        self.refusals.values().sum()
+    }
+
+    /// What can come and never came.
+    pub fn never_seen(&self) -> Vec<String> {
+        let mut never = Vec::new();
+        for (call, refusals) in REFUSALS {
+            let unseen = refusals.iter().filter(|&&refusal| self.seen(call, refusal) == 0);
+            never.extend(unseen.map(|refusal| format!("{call} with refusal {refusal}")));
+        }
+        let unseen = OUTCOMES.iter().filter(|outcome| !self.outcomes.contains_key(*outcome));
+        never.extend(unseen.map(|outcome| outcome.to_string()));
+        never
+    }
+
+    fn seen(&self, call: &'static str, refusal: u32) -> u64 {
+        self.refusals.get(&(call, refusal)).copied().unwrap_or(0)
+    }
+}
+
+fn name(call: Call) -> &'static str {
+    match call {
+        Call::Program(_) => "program",
+        Call::ProgramRefusal(_) => "program_refusal",
+        Call::Open => "open",
+        Call::Gather(_) => "gather",
+        Call::Settle(_) => "settle",
+        Call::Order => "order",
+        Call::NextImage => "next_image",
+    }
+}
+
+/// A program's part does not tell whether it was refused; the second call on the same two does.
+fn refusal_of(call: Call, answer: &Answer, lent: &Lent) -> u32 {
+    match (call, answer) {
+        (Call::Program(number), _) => plain::program_refusal(lent.image.lent(), number),
+        (_, Answer::Refusal(refusal)) => *refusal,
+        (_, Answer::Step(step)) => step.refusal,
+        (_, Answer::Count(count)) => count.refusal,
+        (_, Answer::Part(_)) => unreachable!("only a program is a part"),
+    }
+}
+
+fn outcome(answer: &Answer, call: Call, lent: &Lent) -> Option<&'static str> {
+    match (call, answer) {
+        (_, Answer::Step(step)) => Some(outcome_of_step(step.state, step.detail)),
+        (Call::Order, Answer::Count(listed)) => Some(match &lent.list.lent()[..listed.count as usize] {
+            [] => "order empty",
+            order if order.is_sorted() => "order rising",
+            _ => "order not rising",
+        }),
+        _ => None,
+    }
+}
+
+fn outcome_of_step(state: u32, detail: u32) -> &'static str {
+    match (state, detail, detail / 256) {
+        (GATHERED, ..) => "gathered",
+        (REJECTED, ..) => "rejected",
+        (FAULTED, _, FAULT_AT_LOAD) => "faulted at a load",
+        (FAULTED, _, FAULT_AT_STORE) => "faulted at a store",
+        (COMMITTED, ..) => "committed",
+        (CARRIED, WAW, _) => "carried for WAW",
+        (CARRIED, RAW, _) => "carried for RAW",
+        (CARRIED, RAW_WITH_WAR, _) => "carried for RAW with WAR",
+        _ => unreachable!("no step ends so"),
+    }
+}
+
+impl fmt::Display for Tally {
+    fn fmt(&self, text: &mut fmt::Formatter) -> fmt::Result {
+        write!(text, "refusal")?;
+        for (call, _) in REFUSALS {
+            write!(text, " {call:>15}")?;
+        }
+        writeln!(text)?;
+        for refusal in (0..=12).chain(21..=24) {
+            write!(text, "{refusal:>7}")?;
+            for (call, refusals) in REFUSALS {
+                if refusals.contains(&refusal) {
+                    write!(text, " {:>15}", self.seen(call, refusal))?;
+                } else {
+                    write!(text, " {:>15}", "")?;
+                }
+            }
+            writeln!(text)?;
+        }
+        writeln!(text)?;
+        for outcome in OUTCOMES {
+            writeln!(text, "{:>9} {outcome}", self.outcomes.get(outcome).copied().unwrap_or(0))?;
+        }
+        Ok(())
+    }
+}

@@ -1,0 +1,60 @@
+//! Document 01 once more, in plain Rust: an independent implementation that the tests, the vectors
+//! and the benchmark hold against the library. It was written from the document, not from the code.
+//!
+//! | file | section of document 01 |
+//! |---|---|
+//! | `refusal.rs` | What each refusal says |
+//! | `image.rs` | Sizes; The image: counts and offsets |
+//! | `machine.rs` | Instructions |
+//! | `area.rs` | The work area |
+//! | `steps.rs` | The steps: opening, gathering, settling |
+//! | `order.rs` | The steps: listed order |
+//! | `next.rs` | The steps: next image |
+//! | `batch.rs` | Bench sheet: the program and what it prints |
+
+pub mod area;
+pub mod batch;
+pub mod image;
+pub mod machine;
+mod next;
+mod order;
+pub mod refusal;
+pub mod steps;
+
+pub use image::{program, program_refusal};
+pub use next::next_image;
+pub use order::order;
+pub use steps::{gather, open, settle};
+
+/// What gathering and settling return: the slot's state and detail, or a refusal and two zeros.
+#[derive(Clone, Copy, Debug, PartialEq, Eq)]
+pub struct Step {
+    pub refusal: u32,
+    pub state: u32,
+    pub detail: u32,
+}
+
+/// What the order (a count) and the next image (a length) return, or a refusal and a zero.
+#[derive(Clone, Copy, Debug, PartialEq, Eq)]
+pub struct Count {
+    pub refusal: u32,
+    pub count: u32,
+}
+
+impl Step {
+    fn of(answer: Result<(u32, u32), u32>) -> Step {
+        match answer {
+            Ok((state, detail)) => Step { refusal: refusal::DONE, state, detail },
+            Err(refusal) => Step { refusal, state: 0, detail: 0 },
+        }
+    }
+}
+
+impl Count {
+    fn of(answer: Result<usize, u32>) -> Count {
+        match answer {
+            Ok(count) => Count { refusal: refusal::DONE, count: count as u32 },
+            Err(refusal) => Count { refusal, count: 0 },
+        }
+    }
+}

@@ -1,0 +1,111 @@
+//! The machine: which instructions are good, and what a program does when it runs.
+//! Document 01, "Instructions".
+
+use crate::area::Slot;
+use crate::image::INSTRUCTION_BYTES;
+
+/// "8 registers." "Every byte that names a register is 0 to 7."
+pub const REGISTERS: usize = 8;
+
+/// Fault kinds: "kind 1 at a load, 2 at a store".
+pub const FAULT_AT_LOAD: u32 = 1;
+pub const FAULT_AT_STORE: u32 = 2;
+
+/// The operations, by their byte.
+pub const END: u8 = 0;
+pub const SET: u8 = 1;
+pub const LOAD: u8 = 2;
+pub const STORE: u8 = 3;
+pub const ADD: u8 = 4;
+pub const SUB: u8 = 5;
+pub const SKIPLESS: u8 = 6;
+pub const SKIPEQUAL: u8 = 7;
+pub const REJECT: u8 = 8;
+
+/// How a run came to its end.
+pub enum End {
+    Finished,
+    Rejected { code: u32 },
+    Faulted { kind: u32, instruction: u32 },
+}
+
+/// Whether every instruction of a program is good, reached or not.
+pub fn is_good(program: &[u8]) -> bool {
+    let length = program.len() / INSTRUCTION_BYTES;
+    program
+        .chunks_exact(INSTRUCTION_BYTES)
+        .enumerate()
+        .all(|(place, instruction)| instruction_is_good(instruction, place, length))
+}
+
+/// Whether the instruction at this place of a program of so many instructions is good.
+fn instruction_is_good(instruction: &[u8], place: usize, length: usize) -> bool {
+    let [operation, a, b, c] = bytes_of(instruction);
+    match operation {
+        END => a == 0 && b == 0 && c == 0,
+        SET => is_register(a),
+        LOAD | STORE => is_register(a) && is_register(b) && c == 0,
+        ADD | SUB => is_register(a) && is_register(b) && is_register(c),
+        // "A skip at instruction i of m needs i+1+c ≤ m, taken or not."
+        SKIPLESS | SKIPEQUAL => is_register(a) && is_register(b) && place + 1 + usize::from(c) <= length,
+        REJECT => b == 0 && c == 0,
+        _ => false,
+    }
+}
+
+fn is_register(byte: u8) -> bool {
+    usize::from(byte) < REGISTERS
+}
+
+fn bytes_of(instruction: &[u8]) -> [u8; INSTRUCTION_BYTES] {
+    [instruction[0], instruction[1], instruction[2], instruction[3]]
+}
+
+/// Runs a good program on a table. Its reads and stores go into a slot that holds none yet.
+pub fn run(program: &[u8], table: &[u32], slot: &mut Slot) -> End {
+    let mut r = [0u32; REGISTERS];
+    let mut place = 0;
+    // "Arriving at m is an end."
+    while let Some(instruction) = program.get(INSTRUCTION_BYTES * place..INSTRUCTION_BYTES * (place + 1)) {
+        let [operation, byte_a, b, c] = bytes_of(instruction);
+        let (a, b, c) = (usize::from(byte_a), usize::from(b), usize::from(c));
+        place += 1;
+        match operation {
+            SET => r[a] = (256 * b + c) as u32,
+            LOAD => match load(r[b], table, slot) {
+                Some(value) => r[a] = value,
+                None => return fault(FAULT_AT_LOAD, place - 1),
+            },
+            STORE => {
+                if r[a] as usize >= table.len() {
+                    return fault(FAULT_AT_STORE, place - 1);
+                }
+                slot.store(r[a], r[b]);
+            }
+            ADD => r[a] = r[b].wrapping_add(r[c]),
+            SUB => r[a] = r[b].wrapping_sub(r[c]),
+            SKIPLESS if r[a] < r[b] => place += c,
+            SKIPEQUAL if r[a] == r[b] => place += c,
+            SKIPLESS | SKIPEQUAL => {}
+            REJECT => return End::Rejected { code: u32::from(byte_a) },
+            END => return End::Finished,
+            9.. => unreachable!("a good program has no such operation"),
+        }
+    }
+    End::Finished
+}
+
+/// "A load of a cell that the same program has stored gives the stored value and adds nothing to
+/// the reads. Any other load gives the opening table's value and adds the cell to the reads, once."
+/// A cell number of T or more gives nothing.
+fn load(cell: u32, table: &[u32], slot: &mut Slot) -> Option<u32> {
+    let value = *table.get(cell as usize)?;
+    Some(slot.stored_value(cell).unwrap_or_else(|| {
+        slot.add_read(cell);
+        value
+    }))
+}
+
+fn fault(kind: u32, place: usize) -> End {
+    End::Faulted { kind, instruction: place as u32 }
+}

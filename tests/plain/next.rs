@@ -1,0 +1,62 @@
+//! The next image.
+//! Document 01, "The steps"; its checks go 1 to 7, 9, 21 to 24, 11, 10.
+
+use crate::area::{self, CARRIED, GATHERED};
+use crate::image::{first_offset, Image, PROGRAMS};
+use crate::refusal::{self, FRESH};
+use crate::Count;
+
+/// "The carried programs in number order, then the fresh image's programs, with the fresh image's
+/// rule byte." The output beyond the image is untouched.
+pub fn next_image(image: &[u8], table: &[u32], area: &[u32], fresh: &[u8], out: &mut [u8]) -> Count {
+    Count::of(next_image_checked(image, table, area, fresh, out))
+}
+
+fn next_image_checked(
+    image: &[u8],
+    table: &[u32],
+    area: &[u32],
+    fresh: &[u8],
+    out: &mut [u8],
+) -> Result<usize, u32> {
+    let image = area::check(image, table, area)?;
+    if area::states(area, table.len()).any(|state| state <= GATHERED) {
+        return Err(refusal::STATE);
+    }
+    let fresh = Image::check(fresh).map_err(|refusal| FRESH + refusal)?;
+    let next = || {
+        let carried = area::states(area, table.len()).enumerate().filter(|&(_, state)| state == CARRIED);
+        let carried_programs = carried.map(|(number, _)| image.program(number));
+        carried_programs.chain((0..fresh.count()).map(|number| fresh.program(number)))
+    };
+    let count = next().count();
+    if count > PROGRAMS {
+        return Err(refusal::TOO_MANY);
+    }
+    let length = first_offset(count) + next().map(<[u8]>::len).sum::<usize>();
+    if out.len() < length {
+        return Err(refusal::TOO_SHORT);
+    }
+    write(&mut out[..length], count, fresh.rule_byte(), next());
+    Ok(length)
+}
+
+/// Writes the image of these programs: count, rule byte, 0, the offsets, the programs.
+fn write<'a>(out: &mut [u8], count: usize, rule_byte: u8, programs: impl Iterator<Item = &'a [u8]>) {
+    let mut offset = first_offset(count);
+    out[..2].copy_from_slice(&number(count));
+    out[2] = rule_byte;
+    out[3] = 0;
+    out[4..6].copy_from_slice(&number(offset));
+    for (place, program) in programs.enumerate() {
+        let end = offset + program.len();
+        out[offset..end].copy_from_slice(program);
+        out[6 + 2 * place..8 + 2 * place].copy_from_slice(&number(end));
+        offset = end;
+    }
+}
+
+/// "All numbers are 16 bits, low byte first."
+fn number(value: usize) -> [u8; 2] {
+    (value as u16).to_le_bytes()
+}

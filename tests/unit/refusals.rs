@@ -1,0 +1,299 @@
+//! Every row of "What each refusal says", in every way to earn it, for every call that can.
+
+use material::assembler::{end, image, load, set, store, Instruction, R0, R1};
+use plain::area::{words, CARRIED, COMMITTED, GATHERED, READS, READ_COUNT, SLOT_WORDS, STORES, STORE_COUNT};
+use plain::{gather, next_image, open, order, program, program_refusal, settle};
+
+const CELLS: usize = 3;
+
+/// All that the calls are lent.
+struct Lent {
+    image: Vec<u8>,
+    table: Vec<u32>,
+    area: Vec<u32>,
+    list: Vec<u32>,
+    fresh: Vec<u8>,
+    out: Vec<u8>,
+}
+
+impl Lent {
+    /// An opened batch of two programs (x = 1; loads x) and room for everything.
+    fn opened() -> Lent {
+        Lent {
+            image: two_programs(),
+            table: vec![5; CELLS],
+            area: vec![0; words(CELLS, 2)],
+            list: vec![9; 2],
+            fresh: image(2, &[vec![end()]]),
+            out: vec![9; 100],
+        }
+    }
+
+    /// The same batch, with both programs in these states.
+    fn in_states(states: [u32; 2]) -> Lent {
+        let mut lent = Lent::opened();
+        for (number, state) in states.into_iter().enumerate() {
+            *lent.slot_word(number, 0) = state;
+        }
+        lent
+    }
+
+    fn slot_word(&mut self, number: usize, word: usize) -> &mut u32 {
+        let place = words(self.table.len(), number) + word;
+        &mut self.area[place]
+    }
+
+    fn open(&mut self) -> u32 {
+        self.unless_refused(|lent| open(&lent.image, &lent.table, &mut lent.area))
+    }
+
+    fn gather(&mut self, number: usize) -> u32 {
+        self.unless_refused(|lent| gather(&lent.image, &lent.table, &mut lent.area, number).refusal)
+    }
+
+    fn settle(&mut self, number: usize) -> u32 {
+        self.unless_refused(|lent| settle(&lent.image, &mut lent.table, &mut lent.area, number).refusal)
+    }
+
+    fn order(&mut self) -> u32 {
+        self.unless_refused(|lent| order(&lent.image, &lent.table, &lent.area, &mut lent.list).refusal)
+    }
+
+    fn next_image(&mut self) -> u32 {
+        self.unless_refused(|lent| {
+            next_image(&lent.image, &lent.table, &lent.area, &lent.fresh, &mut lent.out).refusal
+        })
+    }
+
+    /// "A refusal changes no lent memory."
+    fn unless_refused(&mut self, call: impl Fn(&mut Lent) -> u32) -> u32 {
+        let before = (self.table.clone(), self.area.clone(), self.list.clone(), self.out.clone());
+        let refusal = call(self);
+        let after = (&self.table, &self.area, &self.list, &self.out);
+        assert!(refusal == 0 || (&before.0, &before.1, &before.2, &before.3) == after);
+        refusal
+    }
+
+    /// All five calls that are lent image, table and area refuse with this number.
+    fn assert_all_refuse(mut self, refusal: u32) {
+        assert_eq!(self.open(), refusal);
+        self.assert_all_but_opening_refuse(refusal);
+    }
+
+    fn assert_all_but_opening_refuse(mut self, refusal: u32) {
+        assert_eq!(self.gather(0), refusal);
+        assert_eq!(self.settle(0), refusal);
+        assert_eq!(self.order(), refusal);
+        assert_eq!(self.next_image(), refusal);
+    }
+}
+
+fn two_programs() -> Vec<u8> {
+    image(1, &[vec![set(R1, 1), store(R0, R1)], vec![load(R1, R0)]])
+}
+
+/// A change to a good image.
+fn changed(change: impl Fn(&mut Vec<u8>)) -> Vec<u8> {
+    let mut image = two_programs();
+    change(&mut image);
+    image
+}
+
+/// An image gives this number at every call, and that plus 20 as the fresh one.
+fn assert_image_refused(image: &[u8], refusal: u32) {
+    assert_eq!(program_refusal(image, 0), refusal);
+    assert!(program(image, 0).is_empty());
+    Lent { image: image.to_vec(), ..Lent::opened() }.assert_all_refuse(refusal);
+    let mut lent = Lent { fresh: image.to_vec(), ..Lent::in_states([COMMITTED, CARRIED]) };
+    assert_eq!(lent.next_image(), 20 + refusal);
+}
+
+#[test]
+fn row_0_done() {
+    let mut lent = Lent::opened();
+    assert_eq!(program_refusal(&lent.image, 1), 0);
+    assert_eq!(program(&lent.image, 1), load(R1, R0));
+    assert_eq!(lent.open(), 0);
+    assert_eq!([lent.gather(1), lent.gather(0)], [0, 0]);
+    assert_eq!([lent.settle(1), lent.settle(0)], [0, 0]);
+    assert_eq!((lent.order(), lent.next_image()), (0, 0));
+    assert_eq!(lent.table, [1, 5, 5]);
+    assert_eq!(lent.list, [0, 9], "beyond the committed count the list is untouched");
+    let next = image(2, &[vec![load(R1, R0)], vec![end()]]);
+    assert!(lent.out.starts_with(&next));
+    assert!(lent.out[next.len()..].iter().all(|&byte| byte == 9), "beyond the image the output is untouched");
+}
+
+#[test]
+fn row_1_image_size() {
+    assert_image_refused(&[], 1);
+    assert_image_refused(&[0; 5], 1);
+    assert_image_refused(&[0; 8327], 1);
+}
+
+#[test]
+fn row_2_header() {
+    assert_image_refused(&changed(|image| image[0] = 65), 2);
+    assert_image_refused(&changed(|image| image[1] = 1), 2);
+    assert_image_refused(&changed(|image| image[2] = 3), 2);
+    assert_image_refused(&changed(|image| image[3] = 1), 2);
+    assert_image_refused(&[65, 0, 0, 0, 0, 0], 2);
+}
+
+#[test]
+fn row_3_offsets() {
+    assert_image_refused(&[1, 0, 0, 0, 8, 0], 3);
+    assert_image_refused(&changed(|image| image[4] += 4), 3);
+    assert_image_refused(&changed(|image| image[6] = 8), 3);
+    assert_image_refused(&changed(|image| image[6] += 1), 3);
+    assert_image_refused(&changed(|image| image[8] += 4), 3);
+    assert_image_refused(&changed(|image| image.push(0)), 3);
+    assert_image_refused(&image(0, &[vec![end(); 33]]), 3);
+}
+
+#[test]
+fn row_4_instructions() {
+    let bad: [Instruction; 16] = [
+        [9, 0, 0, 0],
+        [255, 0, 0, 0],
+        [0, 1, 0, 0],
+        [0, 0, 0, 1],
+        [1, 8, 0, 0],
+        [2, 8, 0, 0],
+        [2, 0, 8, 0],
+        [2, 0, 0, 1],
+        [3, 0, 8, 0],
+        [3, 0, 0, 1],
+        [4, 0, 0, 8],
+        [5, 0, 8, 0],
+        [6, 0, 0, 1],
+        [7, 8, 0, 0],
+        [8, 0, 1, 0],
+        [8, 0, 0, 1],
+    ];
+    for instruction in bad {
+        assert_image_refused(&image(0, &[vec![], vec![end(), instruction]]), 4);
+    }
+}
+
+#[test]
+fn row_5_table_size() {
+    for cells in [0, 257] {
+        let lent = Lent { table: vec![0; cells], area: vec![0; words(cells, 2)], ..Lent::opened() };
+        lent.assert_all_refuse(5);
+    }
+}
+
+#[test]
+fn row_6_area_size() {
+    for words in [0, words(CELLS, 2) - 1, words(CELLS, 2) + 1] {
+        Lent { area: vec![0; words], ..Lent::opened() }.assert_all_refuse(6);
+    }
+}
+
+#[test]
+fn row_7_area() {
+    let slot = words(CELLS, 1);
+    let counted_cell = |count: usize, cell: usize| {
+        move |area: &mut [u32]| {
+            area[slot + count] = 32;
+            area[slot + cell + 31] = CELLS as u32;
+        }
+    };
+    let bad: [&dyn Fn(&mut [u32]); 7] = [
+        &|area| area[0] = 3,
+        &|area| area[2 * CELLS - 1] = 3,
+        &|area| area[slot] = 6,
+        &|area| area[slot + READ_COUNT] = 33,
+        &|area| area[slot + STORE_COUNT] = 33,
+        &counted_cell(READ_COUNT, READS),
+        &counted_cell(STORE_COUNT, STORES),
+    ];
+    for spoil in bad {
+        let mut lent = Lent::opened();
+        spoil(&mut lent.area);
+        lent.assert_all_but_opening_refuse(7);
+        let mut lent = Lent::opened();
+        spoil(&mut lent.area);
+        assert_eq!(lent.open(), 0);
+    }
+}
+
+#[test]
+fn row_7_looks_at_nothing_else() {
+    let mut lent = Lent::opened();
+    let slot = words(CELLS, 1);
+    lent.area[..2 * CELLS].fill(2);
+    lent.area[slot + 1] = u32::MAX;
+    lent.area[slot + READS..slot + SLOT_WORDS].fill(u32::MAX);
+    assert_eq!(lent.gather(1), 0);
+}
+
+#[test]
+fn row_8_number() {
+    for number in [2, usize::MAX] {
+        assert_eq!(program_refusal(&two_programs(), number), 8);
+        assert_eq!(Lent::opened().gather(number), 8);
+        assert_eq!(Lent::opened().settle(number), 8);
+    }
+}
+
+#[test]
+fn row_9_states() {
+    for state in GATHERED..=CARRIED {
+        assert_eq!(Lent::in_states([state, 0]).gather(0), 9);
+        assert_eq!(Lent::in_states([state, 0]).settle(0), 9);
+        assert_eq!(Lent::in_states([state, GATHERED]).settle(1), 0);
+    }
+    for state in GATHERED + 1..=CARRIED {
+        assert_eq!(Lent::in_states([state, GATHERED]).settle(0), 9);
+    }
+    for state in [0, GATHERED] {
+        assert_eq!(Lent::in_states([COMMITTED, state]).order(), 9);
+        assert_eq!(Lent::in_states([COMMITTED, state]).next_image(), 9);
+    }
+}
+
+#[test]
+fn row_10_too_short() {
+    let settled = || Lent::in_states([COMMITTED, CARRIED]);
+    assert_eq!(Lent { list: vec![9; 1], ..settled() }.order(), 10);
+    assert_eq!(Lent { list: vec![9; 2], ..settled() }.order(), 0);
+    let next = 2 * 2 + 6 + 8;
+    assert_eq!(Lent { out: vec![9; next - 1], ..settled() }.next_image(), 10);
+    assert_eq!(Lent { out: vec![9; next], ..settled() }.next_image(), 0);
+}
+
+#[test]
+fn row_11_too_many() {
+    let fresh = |programs: usize| image(0, &vec![vec![]; programs]);
+    let settled = |programs: usize| Lent { fresh: fresh(programs), ..Lent::in_states([CARRIED, CARRIED]) };
+    assert_eq!(Lent { out: vec![], ..settled(63) }.next_image(), 11);
+    assert_eq!(Lent { out: vec![9; 8326], ..settled(62) }.next_image(), 0);
+}
+
+#[test]
+fn row_12_no_order() {
+    let mut knot = Lent::in_states([COMMITTED, COMMITTED]);
+    for number in [0, 1] {
+        *knot.slot_word(number, READ_COUNT) = 1;
+        *knot.slot_word(number, STORE_COUNT) = 1;
+        *knot.slot_word(number, READS) = number as u32;
+        *knot.slot_word(number, STORES) = 1 - number as u32;
+    }
+    assert_eq!(knot.order(), 12);
+    knot.list.pop();
+    assert_eq!(knot.order(), 10);
+}
+
+#[test]
+fn the_first_row_that_holds_decides() {
+    assert_image_refused(&changed(|image| (image[2], image[4]) = (3, 0)), 2);
+    assert_image_refused(&changed(|image| (image[4], image[10]) = (0, 9)), 3);
+    let mut lent = Lent { area: vec![9; 1], table: vec![], ..Lent::opened() };
+    assert_eq!(lent.gather(9), 5);
+    let mut lent = Lent { list: vec![], ..Lent::in_states([COMMITTED, 0]) };
+    assert_eq!(lent.order(), 9);
+    let mut lent = Lent { fresh: vec![], ..Lent::in_states([COMMITTED, 0]) };
+    assert_eq!(lent.next_image(), 9);
+}
