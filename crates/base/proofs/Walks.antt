@@ -9,7 +9,7 @@ use native.Mathlib.Numerals.{add-one}
 use lib.Dec.{ltb}
 use lib.ListN.{length, getD}
 use lib.Seq.{drop-cons}
-use borrow.Author.Tests.{ltb-true, ltb-false, eq-eqb, ne-eqb}
+use borrow.Author.Tests.{ltb-true, ltb-false}
 use Rattle.base.specs.Words.{orElse, first, has, meets, words}
 use Rattle.base.proofs.Bools.{known, clash}
 use Rattle.base.proofs.Numbers.{first-none, first-unique}
@@ -50,19 +50,6 @@ module _ (l : List ℕ) (at n : ℕ) (lies : at + n ≤ length l) where
   pub words-end : (k : ℕ) → n ≤ k → words (at + k) (n - k) l ≡ []
   unfolding words
   words-end k h = let e : n - k ≡ 0 = omega arith in rw e
-
-  -- looking for c among them
-  pub has-found : (c k : ℕ) → k < n → c ≡ getD l (at + k) 0 → has c (words (at + k) (n - k) l) ≡ true
-  unfolding has
-  has-found c k h e = rw (words-next k h, eq-eqb _ _ e)
-
-  pub has-turn : (c k : ℕ) → k < n → (c ≡ getD l (at + k) 0 → ⊥) → has c (words (at + (k + 1)) (n - (k + 1)) l) ≡ has c (words (at + k) (n - k) l)
-  unfolding has
-  has-turn c k h e = rw (words-next k h, ne-eqb _ _ e)
-
-  pub has-end : (c k : ℕ) → n ≤ k → has c (words (at + k) (n - k) l) ≡ false
-  unfolding has
-  has-end c k h = rw (words-end k h)
 
   -- looking for one that is a member of ys
   module _ (ys : List ℕ) where

@@ -1,4 +1,5 @@
 pub mod Cases
+pub mod Cells
 pub mod Knots
 pub mod Masks
 pub mod Orders

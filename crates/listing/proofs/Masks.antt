@@ -18,6 +18,7 @@ use Rattle.base.proofs.Numbers.{below, zero-or, first-is, first-none}
 use Rattle.image.specs.Limits.{maxPrograms}
 use Rattle.listing.specs.Order.{without}
 use Rattle.listing.specs.Masks.{maskOf, free}
+use Rattle.listing.specs.Cells.{wordBits}
 
 unfoldable bitOf : Bool → ℕ
 bitOf b = cond b 1 0
@@ -145,10 +146,10 @@ bit-out p n i l e = rw (← one-bit n i l, xor-masks p (λ j. eqb j i) n) (mask-
 -- ---- as the code has it: `1 << j` in 64 bits
 
 abbrev pub oneBit : ℕ → ℕ
-oneBit j = (1 * 2 ^ j) % 2 ^ 64
+oneBit j = (1 * 2 ^ j) % 2 ^ wordBits
 
-pub shifted : (j : ℕ) → j < maxPrograms → oneBit j ≡ 2 ^ j
-shifted j h = shl-exact {a = 1} 1 j 64 (omega arith) (omega arith) ∙ one-mul (2 ^ j)
+pub shifted : (j : ℕ) → j < wordBits → oneBit j ≡ 2 ^ j
+shifted j h = shl-exact {a = 1} 1 j wordBits (omega arith) (omega arith) ∙ one-mul (2 ^ j)
 
 pub bit-in : (m j : ℕ) → j < maxPrograms → m < 2 ^ j → bitOr m (oneBit j) ≡ m + 2 ^ j
 bit-in m j h l = rw (shifted j h) (ap (bitOr m) (sym (one-mul (2 ^ j))) ∙ or-shifted-r 1 j m l ∙ omega arith)

@@ -9,7 +9,7 @@ use lib.Bits.{bitXor}
 use lib.ListN.{getD, length, take, drop}
 use borrow.Author.Tests.{eq-eqb, ne-eqb}
 use Rattle.base.specs.Words.{first, meets}
-use Rattle.base.proofs.Bools.{known, and-both}
+use Rattle.base.proofs.Bools.{known, and-both, and-same}
 use Rattle.base.proofs.Numbers.{first-is, first-ext}
 use Rattle.image.specs.Refusals.{noOrder, refusing}
 use Rattle.area.specs.Layout.{readsOf, storesOf}
@@ -20,13 +20,14 @@ use Rattle.listing.specs.Masks.{maskOf, blocking, free, picks}
 use Rattle.listing.proofs.Masks.{and-masks, mask-zero, bit-at, bit-out}
 
 module _ (n : ℕ) (reads stores : ℕ → List ℕ) (d : ℕ → Bool) (blockers : List ℕ)
-    (masks : (i : ℕ) → i < n → getD blockers i 0 ≡ maskOf (λ j. blocks reads stores d i j) n) where
+    (masks : (i : ℕ) → i < n → d i ≡ true → getD blockers i 0 ≡ maskOf (λ j. blocks reads stores d i j) n) where
   free-ready : (left : ℕ → Bool) → ((i : ℕ) → left i ≡ true → d i ≡ true) → (i : ℕ) → i < n
       → free blockers (maskOf left n) i ≡ ready n reads stores left i
   unfolding free ready blocks
   free-ready left sub i l =
-      rw (bit-at left n i l, masks i l, and-masks (λ j. blocks reads stores d i j) left n, mask-zero (λ j. blocks reads stores d i j && left j) n)
-      (ap (λ (x : ℕ). left i && eqb x 0) (first-ext (λ j. blocks reads stores d i j && left j) (blocks reads stores left i) n (λ j h. go j (known (left j)))))
+      rw (bit-at left n i l) (and-same (left i) (λ e.
+      rw (masks i l (sub i e), and-masks (λ j. blocks reads stores d i j) left n, mask-zero (λ j. blocks reads stores d i j && left j) n)
+      (ap (λ (x : ℕ). eqb x 0) (first-ext (λ j. blocks reads stores d i j && left j) (blocks reads stores left i) n (λ j h. go j (known (left j)))))))
     where
       go : (j : ℕ) → (left j ≡ true) ⊎ (left j ≡ false) → blocks reads stores d i j && left j ≡ blocks reads stores left i j
       go j (inl q) = rw (q, sub j q) (last (not (eqb j i) && meets (reads j) (stores i)))
@@ -58,7 +59,7 @@ module _ (n : ℕ) (reads stores : ℕ → List ℕ) (d : ℕ → Bool) (blocker
           (rw (bit-out left n i (t .0) u) (ih i (λ j h. sub j (and-both (left j) (not (eqb j i)) h .0))))
 
 module _ (T n : ℕ) (a : List ℕ) (blockers : List ℕ) (all : ℕ)
-    (masks : (i : ℕ) → i < n → getD blockers i 0 ≡ maskOf (blocking T a i) n)
+    (masks : (i : ℕ) → i < n → isCommitted T a i ≡ true → getD blockers i 0 ≡ maskOf (blocking T a i) n)
     (whole : all ≡ maskOf (isCommitted T a) n) where
   picked : picks n n blockers all ≡ orderOf T n a
   unfolding blocking orderOf

@@ -10,10 +10,11 @@ use lib.Bits.{bitXor}
 use lib.ListN.{length, getD, take, drop, set, length-set}
 use lib.Seq.{getD-set-same, getD-set-other, set-at, take-suc, append-snoc, drop-cons, take-suc-set, length-take-le}
 use borrow.Author.Tests.{eq-eqb, ne-eqb}
-use Rattle.base.specs.Words.{first, meets}
+use Rattle.base.specs.Words.{first, meets, words}
 use Rattle.base.proofs.Numbers.{below}
 use Rattle.image.specs.Limits.{maxPrograms}
-use Rattle.area.specs.Layout.{readsOf, storesOf}
+use Rattle.slot.specs.Layout.{readCount, firstRead}
+use Rattle.area.specs.Layout.{slotStart, readsOf, storesOf}
 use Rattle.listing.specs.Order.{blocks, grow}
 use Rattle.listing.specs.Listing.{isCommitted}
 use Rattle.listing.specs.Masks.{blocking, free, picks}
@@ -76,9 +77,11 @@ module _ (T : ℕ) (a : List ℕ) (i j : ℕ) where
       go true = refl
       go false = refl
 
-  pub blocking-is : isCommitted T a j ≡ true → (j ≡ i → ⊥) → meets (readsOf T j a) (storesOf T i a) ≡ blocking T a i j
-  unfolding blocking blocks
-  blocking-is e h = rw (e, ne-eqb j i h)
+  -- where j's slot begins at `at`, as the code looks
+  pub blocking-is : (at : ℕ) (r : Bool) → at ≡ slotStart T j → isCommitted T a j ≡ true → (j ≡ i → ⊥)
+      → r ≡ meets (words (at + firstRead) (getD a (at + readCount) 0) a) (storesOf T i a) → r ≡ blocking T a i j
+  unfolding blocking blocks readsOf
+  blocking-is at r s e h m = m ∙ rw (s, e, ne-eqb j i h)
 
 -- ---- copying to the front
 
@@ -88,12 +91,12 @@ copy-more d s l k v hd hs e f =
     rw (e, f, add-one, drop-cons d k 0 hd, set-at (take k s) (getD d k 0) (drop (suc k) d) (getD s k 0) k (length-take-le k s (omega arith)), take-suc s k 0 hs)
     (sym (append-snoc (take k s) (getD s k 0) (drop (suc k) d)))
 
--- ---- a table that is filled from the front
+-- ---- a table that is filled from the front, with what f says of those that pass
 
-pub table-more : (f : ℕ → ℕ) (l : List ℕ) (i v : ℕ) → i < length l → ((k : ℕ) → k < i → getD l k 0 ≡ f k) → v ≡ f i
-    → (k : ℕ) → k < i + 1 → getD (set l i v) k 0 ≡ f k
-table-more f l i v h so-far e k s = go (below k i (omega arith))
+pub table-more : (p : ℕ → Bool) (f : ℕ → ℕ) (l : List ℕ) (i v : ℕ) → i < length l → ((k : ℕ) → k < i → p k ≡ true → getD l k 0 ≡ f k)
+    → (p i ≡ true → v ≡ f i) → (k : ℕ) → k < i + 1 → p k ≡ true → getD (set l i v) k 0 ≡ f k
+table-more p f l i v h so-far e k s t = go (below k i (omega arith))
   where
     go : (k ≡ i) ⊎ (k < i) → getD (set l i v) k 0 ≡ f k
-    go (inl q) = rw (q, getD-set-same l i v 0 h) e
-    go (inr q) = getD-set-other l i k v 0 (λ z. omega arith) ∙ so-far k q
+    go (inl q) = rw (q, getD-set-same l i v 0 h) (e (rw q at t))
+    go (inr q) = getD-set-other l i k v 0 (λ z. omega arith) ∙ so-far k q t

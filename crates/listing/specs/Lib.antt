@@ -1,4 +1,5 @@
 pub mod Order
 pub mod Listing
 pub mod Masks
+pub mod Cells
 pub mod Opened

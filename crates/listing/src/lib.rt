@@ -1,14 +1,16 @@
 // The listed order: document 01, "Listed order".
 ghost use mathlib.Core.Path.{_≡_};
-ghost use mathlib.Core.Bool.{cond};
-ghost use mathlib.Core.List.{_++_};
+ghost use mathlib.Core.Bool.{true, cond};
+ghost use mathlib.Core.List.{List, _++_};
 ghost use Prim.Native.Nat.{ℕ, _+_, _^_, _<_, _≤_};
 ghost use lib.ListN.{length, getD, take, drop};
-ghost use Rattle.base.specs.Words.{has, meets, first, words};
-ghost use Rattle.image.specs.Limits.{maxPrograms};
+ghost use Rattle.base.specs.Words.{meets, first, words};
+ghost use Rattle.image.specs.Limits.{maxPrograms, maxCells};
+ghost use Rattle.area.specs.Layout.{storesOf};
 ghost use Rattle.area.specs.Checks.{Slotted};
 ghost use Rattle.listing.specs.Listing.{isCommitted, committedCount, listRefusal, OrderSays, Lists};
 ghost use Rattle.listing.specs.Masks.{maskOf, blocking, free, picks, Slots};
+ghost use Rattle.listing.specs.Cells.{setWords, inSet, withCell, Holds, CellsAt};
 
 // What the listed order answers.
 pub enum Listed {
@@ -16,32 +18,61 @@ pub enum Listed {
     Count(usize),
 }
 
-// Whether c is among the n words from the word start on.
-fn has_cell(area: &[u32], start: usize, n: usize, c: u32) -> bool
-    requires { ⌜ start + n ≤ length (now area) ⌝ }
-    ensures { λ r. ⌜ r ≡ has c (words start n (now (area .entry))) ⌝ }
+// The bits of a word of a set.
+const WORD_BITS: usize = 64;
+
+// The words of a set of cells.
+const SET_WORDS: usize = image::Image::CELLS / WORD_BITS;
+
+// A set of cells, a bit each.
+type Cells = [u64; SET_WORDS];
+
+// Puts a cell into a set.
+fn put_cell(set: &mut Cells, cell: u32)
+    requires { ⌜ (cell < maxCells) × (length (now set) ≡ setWords) ⌝ }
+    ensures { λ _. ⌜ now (set .exit) ≡ withCell (now (set .entry)) cell ⌝ }
+{
+    let word = cell as usize / WORD_BITS;
+    let bit = cell as usize % WORD_BITS;
+    set[word] = set[word] | 1 << bit;
+}
+
+// Whether a cell is in a set.
+fn in_set(set: &Cells, cell: u32) -> bool
+    requires { ⌜ cell < maxCells ⌝ }
+    ensures { λ r. ⌜ r ≡ inSet (now (set .entry)) cell ⌝ }
+{
+    let word = cell as usize / WORD_BITS;
+    let bit = cell as usize % WORD_BITS;
+    set[word] >> bit & 1 == 1
+}
+
+// The set of the n cells from the word start on.
+fn set_of(area: &[u32], start: usize, n: usize) -> Cells
+    requires { ⌜ CellsAt start n (now area) ⌝ }
+    ensures { λ r. ⌜ Holds r (words start n (now (area .entry))) ⌝ }
+{
+    let mut set: Cells = [0; SET_WORDS];
+    for k in 0..n {
+        put_cell(&mut set, area[start + k]);
+    }
+    set
+}
+
+// Whether one of the n cells from the word start on is in a set.
+fn meets_set(area: &[u32], start: usize, n: usize, set: &Cells) -> bool
+    requires { ⌜ CellsAt start n (now area) ⌝ }
+    ensures { λ r. ⌜ ((cells : List ℕ) → Holds (now (set .entry)) cells → r ≡ meets (words start n (now (area .entry))) cells) ⌝ }
 {
     for k in 0..n {
-        if c == area[start + k] {
+        if in_set(set, area[start + k]) {
             return true;
         }
     }
     false
 }
 
-// Whether one of the n words from r on is among the m words from s on.
-fn cells_meet(area: &[u32], r: usize, n: usize, s: usize, m: usize) -> bool
-    requires { ⌜ (r + n ≤ length (now area)) × (s + m ≤ length (now area)) ⌝ }
-    ensures { λ b. ⌜ b ≡ meets (words r n (now (area .entry))) (words s m (now (area .entry))) ⌝ }
-{
-    for k in 0..n {
-        if has_cell(area, s, m, area[r + k]) {
-            return true;
-        }
-    }
-    false
-}
-
+// Whether program i is committed.
 fn is_committed(area: &[u32], cells: usize, i: usize) -> bool
     requires { ⌜ Slotted cells i (now area) ⌝ }
     ensures { λ r. ⌜ r ≡ isCommitted cells (now (area .entry)) i ⌝ }
@@ -49,9 +80,19 @@ fn is_committed(area: &[u32], cells: usize, i: usize) -> bool
     area::state(area, cells, i) == slot::COMMITTED
 }
 
+// The cells that program i stores.
+fn stored_cells(area: &[u32], cells: usize, i: usize) -> Cells
+    requires { ⌜ Slotted cells i (now area) ⌝ }
+    ensures { λ r. ⌜ Holds r (storesOf cells i (now (area .entry))) ⌝ }
+{
+    let at = area::slot_start(cells, i);
+    let count = area[at + slot::STORE_COUNT] as usize;
+    set_of(area, at + slot::STORES, count)
+}
+
 // Whether program j, another committed one, reads a cell that program i stores.
-fn is_blocking(area: &[u32], cells: usize, n: usize, i: usize, j: usize) -> bool
-    requires { ⌜ Slots (now area) cells n × (i < n) × (j < n) ⌝ }
+fn is_blocking(area: &[u32], cells: usize, stored: &Cells, i: usize, j: usize) -> bool
+    requires { ⌜ Slotted cells j (now area) × Holds (now stored) (storesOf cells i (now area)) ⌝ }
     ensures { λ r. ⌜ r ≡ blocking cells (now (area .entry)) i j ⌝ }
 {
     if !is_committed(area, cells, j) {
@@ -60,17 +101,9 @@ fn is_blocking(area: &[u32], cells: usize, n: usize, i: usize, j: usize) -> bool
     if j == i {
         return false;
     }
-    let reader = area::slot_start(cells, j);
-    let storer = area::slot_start(cells, i);
-    let reads = area[reader + slot::READ_COUNT] as usize;
-    let stores = area[storer + slot::STORE_COUNT] as usize;
-    cells_meet(
-        area,
-        reader + slot::READS,
-        reads,
-        storer + slot::STORES,
-        stores,
-    )
+    let at = area::slot_start(cells, j);
+    let count = area[at + slot::READ_COUNT] as usize;
+    meets_set(area, at + slot::READS, count, stored)
 }
 
 // The mask with bit j set or left.
@@ -96,27 +129,41 @@ fn committed_mask(area: &[u32], cells: usize, n: usize) -> u64
     mask
 }
 
-// The programs that keep program i back, a bit each.
-fn blockers_of(area: &[u32], cells: usize, n: usize, i: usize) -> u64
-    requires { ⌜ Slots (now area) cells n × (i < n) ⌝ }
+// The programs that keep program i back, a bit each; its stored cells are known.
+fn readers_of(area: &[u32], cells: usize, n: usize, stored: &Cells, i: usize) -> u64
+    requires { ⌜ Slots (now area) cells n × Holds (now stored) (storesOf cells i (now area)) ⌝ }
     ensures { λ r. ⌜ r ≡ maskOf (blocking cells (now (area .entry)) i) n ⌝ }
 {
     let mut mask: u64 = 0;
     for j in 0..n {
-        mask = with_bit(mask, j, is_blocking(area, cells, n, i, j));
+        mask = with_bit(mask, j, is_blocking(area, cells, stored, i, j));
     }
     mask
 }
 
+// The programs that keep program i back, a bit each; 0 where it is not committed, as no one asks then.
+fn blockers_of(area: &[u32], cells: usize, n: usize, i: usize) -> u64
+    requires { ⌜ Slots (now area) cells n × (i < n) ⌝ }
+    ensures { λ r. ⌜ (isCommitted cells (now (area .entry)) i ≡ true → r ≡ maskOf (blocking cells (now (area .entry)) i) n) ⌝ }
+{
+    if !is_committed(area, cells, i) {
+        return 0;
+    }
+    let stored = stored_cells(area, cells, i);
+    readers_of(area, cells, n, &stored, i)
+}
+
+// Fills in, for each committed program, those that keep it back.
 fn fill_blockers(area: &[u32], cells: usize, n: usize, blockers: &mut [u64; image::Image::PROGRAMS])
     requires { ⌜ Slots (now area) cells n × (length (now blockers) ≡ maxPrograms) ⌝ }
-    ensures { λ _. ⌜ ((i : ℕ) → i < n → getD (now (blockers .exit)) i 0 ≡ maskOf (blocking cells (now (area .entry)) i) n) ⌝ }
+    ensures { λ _. ⌜ ((i : ℕ) → i < n → isCommitted cells (now (area .entry)) i ≡ true → getD (now (blockers .exit)) i 0 ≡ maskOf (blocking cells (now (area .entry)) i) n) ⌝ }
 {
     for i in 0..n {
         blockers[i] = blockers_of(area, cells, n, i);
     }
 }
 
+// How many programs are committed.
 fn committed_count(area: &[u32], cells: usize, n: usize) -> usize
     requires { ⌜ Slots (now area) cells n ⌝ }
     ensures { λ r. ⌜ r ≡ committedCount cells n (now (area .entry)) ⌝ }
@@ -179,12 +226,14 @@ fn pick_all(
     taken
 }
 
+// A byte as a word.
 fn wide(x: u8) -> u32
     ensures { λ r. ⌜ r ≡ x ⌝ }
 {
     x as u32
 }
 
+// Copies the first n entries of the order to the front of the list.
 fn copy_order(order: &[u8; image::Image::PROGRAMS], n: usize, list: &mut [u32])
     requires { ⌜ (n ≤ maxPrograms) × (n ≤ length (now list)) × (length (now order) ≡ maxPrograms) ⌝ }
     ensures { λ _. ⌜ now (list .exit) ≡ take n (now (order .entry)) ++ drop n (now (list .entry)) ⌝ }

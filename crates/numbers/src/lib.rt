@@ -1,8 +1,7 @@
 // The numbers of what gathering and settling answer: document 01, "What each refusal says".
 ghost use Rattle.machine.specs.Runs.{stateOfRun, detailOfRun};
-ghost use Rattle.steps.specs.Answers.{doneWith, refusedBy, reasonNumber, numbersOfGathered, numbersOfSettled};
+ghost use Rattle.steps.specs.Answers.{doneWith, refusedBy, numbersOfGathered, numbersOfSettled};
 ghost use Rattle.numbers.specs.Numbers.{Tells};
-ghost use mathlib.Core.Path.{_≡_};
 
 // The refusal, or 0 with the slot's state and detail.
 #[repr(C)]

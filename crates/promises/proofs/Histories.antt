@@ -25,16 +25,17 @@ use Rattle.promises.proofs.Progress.{Progress, none-yet, movedBy, moved
 use Rattle.promises.proofs.Playing.{reached, reached-phased, world-reached}
 use Rattle.promises.proofs.Endings.{says-itself, over-is, over-paper, settled-gathered}
 
--- ---- Demand 2 and the first half of demand 3
+-- ---- Demand 2: "For every batch, each program's run, its reads, stores and reservations, its outcome and the table afterwards are those of the Aria
+-- paper .. under Rule 1 or Rule 2, with document 01's instructions."
 
--- "Whatever the history, if at its end no state is 0 or 1, table and area are the paper's."
+-- Whatever the history, if at its end no state is 0 or 1, table and area are the paper's.
 pub paper-end : (image t : List ℕ) (w : World) → RunToEnd image t w → w ≡ paperWorld image t
 paper-end image t w r =
     let at = world-reached image t (r .found) (r .opens) (r .history) in
     let p = reached image (r .history) in
     r .plays ∙ (at ∙ over-paper image t (opens image t (r .found) (r .opens) .accepted) (p .gathered) (p .settled) (rw (r .plays, at) at (r .over)))
 
--- "So any two such histories end with equal tables, areas and listed orders."
+-- Demand 3: "The end table, work area and listed order come out the same for all such orders." Any two histories that have ended end equal.
 pub same-end : (image t : List ℕ) (v w : World) → RunToEnd image t v → RunToEnd image t w → v ≡ w
 same-end image t v w r s = paper-end image t v r ∙ sym (paper-end image t w s)
 
@@ -42,7 +43,7 @@ pub same-order : (image t : List ℕ) (v w : World) → RunToEnd image t v → R
     → orderOf (length t) (countOf image) (v .area) ≡ orderOf (length t) (countOf image) (w .area)
 same-order image t v w r s = ap (λ (x : World). orderOf (length t) (countOf image) (x .area)) (same-end image t v w r s)
 
--- The paper's world has "the outcome under Rule 1 and under Rule 2, the table afterwards", and in each slot its program's run.
+-- The paper's world has the outcomes and the table that `Paper` gives, and in each slot its program's run.
 pub paper-table : (image t : List ℕ) → paperWorld image t .table ≡ tableAfter (batchOf image t) t
 unfolding tableOn tableAfter
 paper-table image t = refl
@@ -70,8 +71,8 @@ module _ (image t : List ℕ) (accepted : refusalOf image ≡ 0) (k : ℕ) (numb
 
 -- ---- It is not empty
 
--- "Every history in which each program's gathering stands somewhere, and later each gathered program's settling, ends so, whatever refused, repeated
--- or out-of-range steps stand in between."
+-- Every history in which each program's gathering stands somewhere, and later each gathered program's settling, has ended, whatever refused, repeated
+-- or out-of-range steps stand in between.
 pub whole-ends : (image t found : List ℕ) → openRefusal image t found ≡ 0 → (first second : List Step) → Whole image t first second
     → isOver image (worldAfter image t found (first ++ second)) ≡ true
 whole-ends image t found e first second whole =
@@ -95,8 +96,9 @@ pub orders-whole : (image t gathering settling : List ℕ) → ((k : ℕ) → k 
 orders-whole image t gathering settling g s =
     record { all-gathered = λ k l. gathers-each k gathering ∙ g k l; all-settled = λ k l f. settles-each k settling ∙ s k l f }
 
--- "The literal sentence of demand 3 (each once, any two orders, refused steps included)": gathered in any order and then settled in any order, in
--- whatever area was found, the two end with equal tables and areas, the paper's, and with equal listed orders.
+-- Demand 3: "Open a batch, gather every program once, then settle every gathered program once, in any two orders, refused steps between them included,
+-- with nobody else changing image, table or work area. The end table, work area and listed order come out the same for all such orders." They are the
+-- paper's, in whatever area each was opened.
 pub any-two-orders : (image t found found′ : List ℕ) → openRefusal image t found ≡ 0 → openRefusal image t found′ ≡ 0
     → (first second first′ second′ : List Step) → Whole image t first second → Whole image t first′ second′
     → (v w : World) → v ≡ worldAfter image t found (first ++ second) → w ≡ worldAfter image t found′ (first′ ++ second′)
@@ -129,12 +131,12 @@ module _ (image t found : List ℕ) (opened : openRefusal image t found ≡ 0) (
       ∙ (says-itself image t (opens image t found opened .accepted) (p .gathered) (p .settled) (reached-phased image history)
       ∙ ap (λ (x : World). worldOn image t (gatheredIn (length t) (x .area)) (settledIn (length t) (x .area))) (sym is))
 
-  -- "After any history (ended or not) the area passes check 7"
+  -- After any history, ended or not, the area passes check 7.
   pub checked-on-the-way : callRefusal image (w .table) (w .area) ≡ 0
   checked-on-the-way =
       ap (λ (x : World). callRefusal image (x .table) (x .area)) is ∙ call-on image t (opens image t found opened) (p .gathered) (p .settled)
 
-  -- "each gathered slot holds its program's run from the opening table": its reads, stores and values are those of that run,
+  -- Each gathered slot holds its program's run from the opening table: its reads, stores and values are those of that run,
   pub log-on-the-way : (k : ℕ) → k < countOf image → gatheredIn (length t) (w .area) k ≡ true
       → logIn (slotAt (length t) k (w .area)) ≡ logOf (batchOf image t) k
   unfolding logBy
@@ -170,7 +172,7 @@ module _ (image t found : List ℕ) (opened : openRefusal image t found ≡ 0) (
       (sym (gathered-on (batchOf image t) (p .gathered) (p .settled) (length t) fits k l)
       ∙ (ap (λ (x : World). gatheredIn (length t) (x .area) k) (sym is) ∙ g)))
 
-  -- "and the marks are those of the gathered programs"
+  -- The marks are those of the gathered programs.
   pub write-marks-on-the-way : words (writeMarks (length t)) (length t) (w .area)
       ≡ tabulate (writeMark (batchOf image t) (gatheredIn (length t) (w .area))) (length t)
   write-marks-on-the-way =

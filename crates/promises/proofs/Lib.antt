@@ -21,3 +21,5 @@ pub mod Ordering
 pub mod WithinBatches
 pub mod Counting
 pub mod Sheet
+pub mod Refusing
+pub mod NextBatch

@@ -19,7 +19,7 @@ use Rattle.promises.specs.History.{RunToEnd, isOver}
 use Rattle.promises.proofs.AtEnd.{paper-ends, end-sized, end-committed, end-order, end-exists, end-distinct, end-members}
 use Rattle.promises.proofs.PaperOrder.{order-rising}
 
--- "each committed program once and nothing else"
+-- The list names each committed program once and nothing else.
 pub list-names : (image t : List ℕ) (w : World) → RunToEnd image t w
     → (let l = orderOf (length t) (countOf image) (w .area) in
     (distinct l ≡ true) × ((k : ℕ) → has k l ≡ ltb k (countOf image) && isCommitted (length t) (w .area) k))

@@ -12,8 +12,8 @@ use Rattle.promises.specs.Serial.{serialRuns, serialTable}
 use Rattle.promises.proofs.AtEnd.{paper-ends, end-order}
 use Rattle.promises.proofs.Replay.{serial-runs, serial-table}
 
--- "Running the committed programs one after another from the opening table, in the listed order": each run is the very run of its gathering, with the
--- same answer, reads, stores, path and loaded values, and the last table is the end table.
+-- Demand 3: "Running the committed programs one after another from the opening table, in the listed order, each one loads the same values, takes the
+-- same path and stores the same, and the last table is the end table." An outcome has answer, reads, stores, path and loaded values.
 pub serial-run : (image t : List ℕ) (w : World) → RunToEnd image t w
     → (let l = orderOf (length t) (countOf image) (w .area) in
     (serialRuns image l t ≡ map (runAt image t) l) × (serialTable image l t ≡ w .table))

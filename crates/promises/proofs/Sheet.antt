@@ -9,7 +9,6 @@ use Rattle.image.specs.Image.{countOf}
 use Rattle.image.proofs.Assembler.{Instruction, set, load, store, add, sub, reject, program, image}
 use Rattle.area.specs.Layout.{areaWords, stateOf, detailOf}
 use Rattle.listing.specs.Listing.{orderOf}
-use Rattle.promises.specs.Paper.{batchOf, tableAfter, stateAfter, detailAfter}
 use Rattle.promises.specs.Laid.{World, paperWorld}
 use Rattle.promises.specs.History.{Step, gather, settle, worldAfter}
 use Rattle.promises.specs.Opened.{opened}

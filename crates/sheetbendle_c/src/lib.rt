@@ -1,7 +1,5 @@
 // The library for C: include/sheetbendle.h declares these functions. A slice is a pointer and a length there.
-ghost use mathlib.Core.Path.{_≡_};
 ghost use Prim.Native.Nat.{_^_, _<_};
-ghost use Rattle.image.specs.Refusals.{Counted};
 ghost use Rattle.image.specs.Image.{ProgramRefusalSays};
 ghost use Rattle.steps.specs.Opening.{OpenSays};
 ghost use Rattle.listing.specs.Listing.{numbersOfListed};

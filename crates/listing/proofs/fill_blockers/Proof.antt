@@ -1,10 +1,12 @@
--- The loop's invariant: the entries below i are their masks. The measure is what is left of n. Assumes nothing.
+-- The loop's invariant: the entries of the committed programs below i are their masks. The measure is what is left of n. Assumes nothing.
 use mathlib.Core.Path.{_≡_}
+use mathlib.Core.Bool.{true}
 use Prim.Native.Nat.{ℕ, _≤_, _<_, _-_}
 use native.Mathlib.Omega.{arith}
 use lib.ListN.{length, getD, length-set}
 use borrow.Author.Needs.{needs}
 use Rattle.image.specs.Limits.{maxPrograms}
+use Rattle.listing.specs.Listing.{isCommitted}
 use Rattle.listing.specs.Masks.{maskOf, blocking}
 use Rattle.listing.proofs.Turns.{table-more}
 use Rattle.listing.proofs.fill_blockers.Statement.{statement}
@@ -12,13 +14,13 @@ use Rattle.listing.proofs.fill_blockers.Tie as tie
 
 abbrev Inv-loop : tie.InvT-loop
 Inv-loop area cells n blockers₀ i₀ blockers i =
-    (i ≤ n) × (length blockers ≡ maxPrograms) × ((k : ℕ) → k < i → getD blockers k 0 ≡ maskOf (blocking cells area k) n)
+    (i ≤ n) × (length blockers ≡ maxPrograms) × ((k : ℕ) → k < i → isCommitted cells area k ≡ true → getD blockers k 0 ≡ maskOf (blocking cells area k) n)
 
 abbrev μ-loop : tie.MeasureT-loop
 μ-loop area cells n blockers₀ i₀ blockers i = n - i
 
 loop-holds : tie.Need-loop-holds Inv-loop μ-loop
-loop-holds c = (search needs, c .before .pre .1, λ k h. absurd (omega arith))
+loop-holds c = (search needs, c .before .pre .1, λ k h e. absurd (omega arith))
 
 blockers-of-requires : tie.Need-blockers-of-requires Inv-loop μ-loop
 blockers-of-requires c κs = let s = c .before .before .before in (s .pre .0, omega arith)
@@ -42,12 +44,12 @@ loop-again c =
     let a = s .args in (
       omega arith,
       simp length-set (l .inv .1),
-      table-more (λ k. maskOf (blocking (a .cells) (a .area .now) k) (a .n)) (l .blockers) (l .i) (c .blockers-of .result)
+      table-more (isCommitted (a .cells) (a .area .now)) (λ k. maskOf (blocking (a .cells) (a .area .now) k) (a .n)) (l .blockers) (l .i) (c .blockers-of .result)
           (omega (arith, l .inv .1, s .pre .0 .few)) (l .inv .2) (c .blockers-of .ensures),
     )
 
 returns : tie.Need-returns Inv-loop μ-loop
-returns c = λ i h. c .before .loop .inv .2 i (omega arith)
+returns c = λ i h e. c .before .loop .inv .2 i (omega arith) e
 
 pub fill-blockers-spec : {M : Type 1} → statement M
 fill-blockers-spec =

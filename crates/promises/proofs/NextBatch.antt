@@ -1,0 +1,42 @@
+-- Demand 2: "The next image holds exactly the carried programs in their order, then the fresh ones." Assumes nothing.
+use Prim.Native.Nat.{ℕ, _<_}
+use mathlib.Core.Path.{_≡_, refl, ap, _∙_}
+use mathlib.Core.Bool.{Bool, true, false, not, cond, _&&_}
+use mathlib.Core.List.{List, _++_}
+use lib.Dec.{eqb}
+use lib.ListN.{length}
+use Rattle.image.specs.Image.{countOf, ruleByte, refusalOf}
+use Rattle.slot.specs.States.{committed, carried}
+use Rattle.machine.specs.declared.Run.{Run}
+use Rattle.machine.specs.declared.Run.the-variants.{Finished, Rejected, Faulted}
+use Rattle.machine.specs.Runs.{stateOfRun}
+use Rattle.carry.specs.Next.{isCarried, carriedOf, allOf, nextPrograms, nextImage, nextRefusal}
+use Rattle.carry.proofs.Nexts.{next-good, next-rule, next-programs}
+use Rattle.promises.specs.Paper.{batchOf, finishes, finished, commits, stateAfter}
+use Rattle.promises.specs.Laid.{World}
+use Rattle.promises.specs.History.{RunToEnd}
+use Rattle.promises.proofs.AtEnd.{paper-ends}
+
+-- Where the call is not refused, its output is a good image with the fresh rule byte, and its programs are the carried ones and then the fresh ones.
+pub next-holds : (image t a fresh out : List ℕ) → nextRefusal image t a fresh out ≡ 0
+    → (let next = nextImage (length t) image a fresh in
+    (refusalOf next ≡ 0) × (ruleByte next ≡ ruleByte fresh) × (allOf next ≡ carriedOf (length t) image a ++ allOf fresh))
+unfolding nextPrograms
+next-holds image t a fresh out e =
+    (next-good image t a fresh out e, next-rule image t a fresh out e, next-programs image t a fresh out e)
+
+-- a program is carried where it finished and does not commit
+carried-state : (answer : Run) (commit : Bool)
+    → eqb (cond (finishes answer) (cond commit committed carried) (stateOfRun answer)) carried ≡ finishes answer && not commit
+carried-state Finished true = refl
+carried-state Finished false = refl
+carried-state (Rejected code) commit = refl
+carried-state (Faulted kind at) commit = refl
+
+-- At the end of a batch, the carried programs are the paper's: those that finished and do not commit.
+pub carried-are : (image t : List ℕ) (w : World) → RunToEnd image t w → (k : ℕ) → k < countOf image
+    → isCarried (length t) (w .area) k ≡ finished (batchOf image t) k && not (commits (batchOf image t) k)
+unfolding isCarried stateAfter
+carried-are image t w run k l =
+    ap (λ (s : ℕ). eqb s carried) (paper-ends run .state-is k l)
+    ∙ carried-state (batchOf image t .runs k .answer) (commits (batchOf image t) k)
