@@ -3,6 +3,8 @@
 ghost use mathlib.Core.Path.{_≡_};
 ghost use Prim.Native.Nat.{_+_, _*_, _≤_, _<_};
 ghost use lib.ListN.{length};
+ghost use Rattle.image.specs.Limits.{maxPrograms, maxCells};
+ghost use Rattle.area.specs.Layout.{areaWords};
 
 // T in two bytes, T cells of four bytes, then the image.
 const COUNT_BYTES: usize = 2;
@@ -35,13 +37,18 @@ fn print_refused(number: u32) {
 
 // A state's word in the work area's list.
 fn print_state(state: u32) {
-    match state {
-        0 => print(b" waiting"),
-        1 => print(b" gathered"),
-        2 => print(b" rejected"),
-        3 => print(b" faulted"),
-        4 => print(b" committed"),
-        _ => print(b" carried"),
+    if state == sheetbendle::WAITING {
+        print(b" waiting");
+    } else if state == sheetbendle::GATHERED {
+        print(b" gathered");
+    } else if state == sheetbendle::REJECTED {
+        print(b" rejected");
+    } else if state == sheetbendle::FAULTED {
+        print(b" faulted");
+    } else if state == sheetbendle::COMMITTED {
+        print(b" committed");
+    } else {
+        print(b" carried");
     }
 }
 
@@ -172,7 +179,7 @@ fn run_in(
 
 // How many programs the header names, 0 where that is over the limit: opening then refuses the image before it looks at the area.
 fn programs_of(image: &[u8]) -> usize
-    ensures { λ r. ⌜ r ≤ 64 ⌝ }
+    ensures { λ r. ⌜ r ≤ maxPrograms ⌝ }
 {
     let n = sheetbendle::Image::header(image).count as usize;
     if sheetbendle::Image::PROGRAMS < n {
@@ -189,7 +196,7 @@ fn run_on(
     states: &mut [u32],
     details: &mut [u32],
 )
-    requires { ⌜ (length (now table) ≤ 256) × (6912 ≤ length (now area)) × (64 ≤ length (now states)) × (64 ≤ length (now details)) ⌝ }
+    requires { ⌜ (length (now table) ≤ maxCells) × (areaWords maxCells maxPrograms ≤ length (now area)) × (maxPrograms ≤ length (now states)) × (maxPrograms ≤ length (now details)) ⌝ }
 {
     let n = programs_of(image);
     let words = 2 * table.len() + sheetbendle::SLOT_WORDS * n;
@@ -204,26 +211,26 @@ fn run_on(
 
 // Room for the largest work area, and for a number per program.
 fn area_room() -> [u32; sheetbendle::AREA_WORDS]
-    ensures { λ r. ⌜ 6912 ≡ length r ⌝ }
+    ensures { λ r. ⌜ areaWords maxCells maxPrograms ≡ length r ⌝ }
 {
     [0; sheetbendle::AREA_WORDS]
 }
 
 fn program_room() -> [u32; sheetbendle::Image::PROGRAMS]
-    ensures { λ r. ⌜ 64 ≡ length r ⌝ }
+    ensures { λ r. ⌜ maxPrograms ≡ length r ⌝ }
 {
     [0; sheetbendle::Image::PROGRAMS]
 }
 
 fn table_room() -> [u32; sheetbendle::Image::CELLS]
-    ensures { λ r. ⌜ 256 ≡ length r ⌝ }
+    ensures { λ r. ⌜ maxCells ≡ length r ⌝ }
 {
     [0; sheetbendle::Image::CELLS]
 }
 
 // The batch of an image on a table.
 fn run_batch(image: &[u8], table: &mut [u32])
-    requires { ⌜ length (now table) ≤ 256 ⌝ }
+    requires { ⌜ length (now table) ≤ maxCells ⌝ }
 {
     let mut area = area_room();
     let mut states = program_room();
@@ -239,7 +246,7 @@ fn wide(byte: u8) -> u32
 
 // The table's size, 0 where the input is shorter than the prefix needs or the size is outside 1 to 256.
 fn cells_of(input: &[u8]) -> usize
-    ensures { λ r. ⌜ (r ≤ 256) × ((r ≡ 0 → ⊥) → 2 + 4 * r ≤ length (now (input .entry))) ⌝ }
+    ensures { λ r. ⌜ (r ≤ maxCells) × ((r ≡ 0 → ⊥) → 2 + 4 * r ≤ length (now (input .entry))) ⌝ }
 {
     if input.len() < COUNT_BYTES {
         return 0;
@@ -277,7 +284,7 @@ fn read_cells(input: &[u8], table: &mut [u32])
 
 // The batch of an input whose prefix is whole: its cells into the table, and then its image on it.
 fn run_table(input: &[u8], cells: usize, room: &mut [u32])
-    requires { ⌜ (cells ≤ 256) × (cells ≤ length (now room)) × (2 + 4 * cells ≤ length (now input)) ⌝ }
+    requires { ⌜ (cells ≤ maxCells) × (cells ≤ length (now room)) × (2 + 4 * cells ≤ length (now input)) ⌝ }
 {
     let start = COUNT_BYTES + CELL_BYTES * cells;
     let table = &mut room[..cells];

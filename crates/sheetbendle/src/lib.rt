@@ -34,3 +34,16 @@ pub use steps::settle;
 pub const SLOT_WORDS: usize = slot::WORDS;
 
 pub const AREA_WORDS: usize = 2 * image::Image::CELLS + SLOT_WORDS * image::Image::PROGRAMS;
+
+// The states of a program, as an answer's numbers have them.
+pub const WAITING: u32 = slot::WAITING;
+
+pub const GATHERED: u32 = slot::GATHERED;
+
+pub const REJECTED: u32 = slot::REJECTED;
+
+pub const FAULTED: u32 = slot::FAULTED;
+
+pub const COMMITTED: u32 = slot::COMMITTED;
+
+pub const CARRIED: u32 = slot::CARRIED;
