@@ -1,0 +1,64 @@
+-- No second result: for each call for C, two outcomes that meet its contract at the same arguments look the same, the lent memory at the exit included.
+-- Assumes nothing.
+use mathlib.Core.List.{List}
+use Prim.Native.Nat.{ℕ}
+use denote.Ref.{now}
+use mathlib.Core.Path.{_≡_, sym, ap, _∙_}
+use Rattle.base.proofs.Unique.{Unique}
+use Rattle.image.specs.Refusals.{Counted}
+use Rattle.numbers.proofs.Unique.{told-once}
+use Rattle.numbers.specs.declared.StepNumbers.{StepNumbers}
+use Rattle.sheetbendle_c.specs.declared.PartNumbers.{PartNumbers}
+use Rattle.sheetbendle_c.specs.declared.CountNumbers.{CountNumbers}
+use Rattle.sheetbendle_c.specs.Calls.{PartTells, CountTells}
+use Rattle.sheetbendle_c.proofs.sheetbendle_program.Kinds as program-kinds
+use Rattle.sheetbendle_c.proofs.sheetbendle_program.Reads as program
+use Rattle.sheetbendle_c.proofs.sheetbendle_program_refusal.Kinds as program-refusal-kinds
+use Rattle.sheetbendle_c.proofs.sheetbendle_program_refusal.Reads as program-refusal
+use Rattle.sheetbendle_c.proofs.sheetbendle_open.Kinds as open-kinds
+use Rattle.sheetbendle_c.proofs.sheetbendle_open.Reads as opening
+use Rattle.sheetbendle_c.proofs.sheetbendle_gather.Kinds as gather-kinds
+use Rattle.sheetbendle_c.proofs.sheetbendle_gather.Reads as gather
+use Rattle.sheetbendle_c.proofs.sheetbendle_settle.Kinds as settle-kinds
+use Rattle.sheetbendle_c.proofs.sheetbendle_settle.Reads as settle
+use Rattle.sheetbendle_c.proofs.sheetbendle_order.Kinds as order-kinds
+use Rattle.sheetbendle_c.proofs.sheetbendle_order.Reads as order
+use Rattle.sheetbendle_c.proofs.sheetbendle_next_image.Kinds as next-kinds
+use Rattle.sheetbendle_c.proofs.sheetbendle_next_image.Reads as next
+
+-- structs of numbers are equal where their numbers are
+abbrev part : ℕ → ℕ → PartNumbers
+part start length = record { start = start; length = length }
+
+part-once : (image : List ℕ) (k : ℕ) (x y : PartNumbers) → PartTells image k x → PartTells image k y → x ≡ y
+part-once image k x y p q =
+    ap (λ (s : ℕ). part s (x .length)) (p .start ∙ sym (q .start)) ∙ ap (λ (l : ℕ). part (y .start) l) (p .extent ∙ sym (q .extent))
+
+abbrev number : ℕ → ℕ → CountNumbers
+number refusal count = record { refusal = refusal; count = count }
+
+count-once : (n : Counted) (x y : CountNumbers) → CountTells n x → CountTells n y → x ≡ y
+count-once n x y p q =
+    ap (λ (r : ℕ). number r (x .count)) (p .refusal ∙ sym (q .refusal)) ∙ ap (λ (c : ℕ). number (y .refusal) c) (p .count ∙ sym (q .count))
+
+pub program-unique : Unique {A = PartNumbers} 1 program-kinds.ps program-kinds.r (λ κs x s. x) program.Post
+program-unique κs a x y s t p q = part-once _ _ x y p q
+
+pub program-refusal-unique : Unique {A = ℕ} 1 program-refusal-kinds.ps program-refusal-kinds.r (λ κs x s. x) program-refusal.Post
+program-refusal-unique κs a x y s t p q = cc
+
+pub open-unique : Unique {A = ℕ × List ℕ} 3 open-kinds.ps open-kinds.r (λ κs x s. (x, now (s .1 .1 .0))) opening.Post
+open-unique κs a x y s t p q = cc
+
+pub gather-unique : Unique {A = StepNumbers × List ℕ} 3 gather-kinds.ps gather-kinds.r (λ κs x s. (x, now (s .1 .1 .0))) gather.Post
+gather-unique κs a x y s t p q = cc (told-once _ x y (p .numbers) (q .numbers))
+
+pub settle-unique : Unique {A = StepNumbers × List ℕ × List ℕ} 3 settle-kinds.ps settle-kinds.r
+    (λ κs x s. (x, now (s .1 .0), now (s .1 .1 .0))) settle.Post
+settle-unique κs a x y s t p q = cc (told-once _ x y (p .numbers) (q .numbers))
+
+pub order-unique : Unique {A = CountNumbers × List ℕ} 4 order-kinds.ps order-kinds.r (λ κs x s. (x, now (s .1 .1 .1 .0))) order.Post
+order-unique κs a x y s t p q = cc (count-once _ x y (p .numbers) (q .numbers))
+
+pub next-image-unique : Unique {A = CountNumbers × List ℕ} 5 next-kinds.ps next-kinds.r (λ κs x s. (x, now (s .1 .1 .1 .1 .0))) next.Post
+next-image-unique κs a x y s t p q = cc (count-once _ x y (p .numbers) (q .numbers))
