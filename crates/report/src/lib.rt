@@ -203,9 +203,9 @@ fn run_on(
     run_in(
         image,
         table,
-        &mut area[..words],
-        &mut states[..n],
-        &mut details[..n],
+        &mut area[0..words],
+        &mut states[0..n],
+        &mut details[0..n],
     );
 }
 
@@ -287,7 +287,7 @@ fn run_table(input: &[u8], cells: usize, room: &mut [u32])
     requires { ⌜ (cells ≤ maxCells) × (cells ≤ length (now room)) × (2 + 4 * cells ≤ length (now input)) ⌝ }
 {
     let start = COUNT_BYTES + CELL_BYTES * cells;
-    let table = &mut room[..cells];
+    let table = &mut room[0..cells];
     read_cells(input, table);
     run_batch(&input[start..], table);
 }

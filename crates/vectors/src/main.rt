@@ -50,7 +50,7 @@ fn run_next(pack: i32, name: &[u8], number: u64) -> bool {
     io::write_all(1, b"\n");
     let mut space = room();
     let n = length_of(&head);
-    run_input(pack, &mut space[..n]);
+    run_input(pack, &mut space[0..n]);
     true
 }
 
