@@ -76,8 +76,7 @@ impl Archive {
     }
 
     pub fn open(&mut self, image: &mut Buffer<u8>, table: &mut Buffer<u32>, area: &mut Buffer<u32>) -> u32 {
-        let lent: &mut [Lent] = &mut [(Name::Table, table), (Name::Area, area), (Name::Image, image)];
-        refusal(self.call(Call::Open, 0, lent))
+        refusal(self.batch_call(Call::Open, image, table, area, 0))
     }
 
     pub fn gather(
@@ -87,8 +86,7 @@ impl Archive {
         area: &mut Buffer<u32>,
         number: usize,
     ) -> Step {
-        let lent: &mut [Lent] = &mut [(Name::Table, table), (Name::Area, area), (Name::Image, image)];
-        step(self.call(Call::Gather, number, lent))
+        step(self.batch_call(Call::Gather, image, table, area, number))
     }
 
     pub fn settle(
@@ -98,8 +96,19 @@ impl Archive {
         area: &mut Buffer<u32>,
         number: usize,
     ) -> Step {
-        let lent: &mut [Lent] = &mut [(Name::Table, table), (Name::Area, area), (Name::Image, image)];
-        step(self.call(Call::Settle, number, lent))
+        step(self.batch_call(Call::Settle, image, table, area, number))
+    }
+
+    /// A call that is lent image, table and area alone.
+    fn batch_call(
+        &mut self,
+        call: Call,
+        image: &mut Buffer<u8>,
+        table: &mut Buffer<u32>,
+        area: &mut Buffer<u32>,
+        number: usize,
+    ) -> [u64; 3] {
+        self.call(call, number, &mut [(Name::Table, table), (Name::Area, area), (Name::Image, image)])
     }
 
     pub fn order(
