@@ -9,3 +9,4 @@ pub mod Somes
 pub mod Tables
 pub mod Unique
 pub mod Walks
+pub mod Masks

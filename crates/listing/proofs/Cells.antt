@@ -19,7 +19,8 @@ use Rattle.base.proofs.Members.{has-append}
 use Rattle.image.specs.Limits.{maxCells}
 use Rattle.area.specs.Layout.{readCountAt, storeCountAt, readsAt, storesAt}
 use Rattle.area.specs.Checks.{Slotted}
-use Rattle.listing.specs.Cells.{wordBits, setWords, hasBit, inSet, withCell, Holds, CellsAt}
+use Rattle.base.specs.Masks.{wordBits, hasBit}
+use Rattle.listing.specs.Cells.{setWords, inSet, withCell, Holds, CellsAt}
 
 -- ---- one bit more
 

@@ -16,8 +16,10 @@ use Rattle.area.specs.Layout.{readsOf, storesOf}
 use Rattle.listing.specs.declared.Listed.the-variants.{Refused, Count}
 use Rattle.listing.specs.Order.{blocks, ready, without, grow, listed}
 use Rattle.listing.specs.Listing.{isCommitted, committedCount, orderOf, orderExists, listedAnswer, listedList, Lists}
-use Rattle.listing.specs.Masks.{maskOf, blocking, free, picks}
-use Rattle.listing.proofs.Masks.{and-masks, mask-zero, bit-at, bit-out}
+use Rattle.base.specs.Masks.{maskOf}
+use Rattle.base.proofs.Masks.{and-masks, mask-zero, bit-at}
+use Rattle.listing.specs.Masks.{blocking, free, picks}
+use Rattle.listing.proofs.Masks.{bit-out}
 
 module _ (n : ℕ) (reads stores : ℕ → List ℕ) (d : ℕ → Bool) (blockers : List ℕ)
     (masks : (i : ℕ) → i < n → d i ≡ true → getD blockers i 0 ≡ maskOf (λ j. blocks reads stores d i j) n) where

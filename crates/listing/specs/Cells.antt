@@ -7,18 +7,12 @@ use lib.Dec.{eqb}
 use lib.Bits.{bitOr}
 use lib.ListN.{length, getD, set}
 use Rattle.base.specs.Words.{has}
+use Rattle.base.specs.Masks.{wordBits, hasBit}
 use Rattle.image.specs.Limits.{maxCells}
 
--- the bits of a word, the words of a set
-abbrev pub wordBits : ℕ
-wordBits = 64
-
+-- the words of a set
 abbrev pub setWords : ℕ
 setWords = maxCells / wordBits
-
--- bit j of a number is set
-unfoldable pub hasBit : ℕ → ℕ → Bool
-hasBit x j = eqb (x / 2 ^ j % 2) 1
 
 -- cell c is bit c % 64 of word c / 64: whether it is in the set, and the set with it
 unfoldable pub inSet : List ℕ → ℕ → Bool

@@ -1,7 +1,7 @@
--- Sets of programs as the bits of a number of 64, and the listed order over them, as the code goes. Assumes nothing.
-use mathlib.Core.Bool.{Bool, not, cond, _&&_}
+-- The listed order over sets of programs as the bits of a number of 64, as the code goes. Assumes nothing.
+use mathlib.Core.Bool.{Bool, not, _&&_}
 use mathlib.Core.List.{List, []}
-use Prim.Native.Nat.{ℕ, zero, suc, _+_, _^_, _<_, _≤_}
+use Prim.Native.Nat.{ℕ, zero, suc, _^_, _<_, _≤_}
 use lib.Dec.{eqb}
 use lib.ListN.{getD}
 use lib.Bits.{bitAnd, bitXor}
@@ -11,11 +11,6 @@ use Rattle.area.specs.Layout.{readsOf, storesOf}
 use Rattle.area.specs.Checks.{Slotted}
 use Rattle.listing.specs.Order.{blocks, grow}
 use Rattle.listing.specs.Listing.{isCommitted}
-
--- the numbers below n that pass, a bit each
-unfoldable pub maskOf : (ℕ → Bool) → ℕ → ℕ
-maskOf test zero = 0
-maskOf test (suc n) = maskOf test n + cond (test n) (2 ^ n) 0
 
 -- program j of an area, committed and not i, reads what i stores
 unfoldable pub blocking : ℕ → List ℕ → ℕ → ℕ → Bool

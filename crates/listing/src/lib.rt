@@ -9,7 +9,8 @@ ghost use Rattle.image.specs.Limits.{maxPrograms, maxCells};
 ghost use Rattle.area.specs.Layout.{storesOf};
 ghost use Rattle.area.specs.Checks.{Slotted};
 ghost use Rattle.listing.specs.Listing.{isCommitted, committedCount, listRefusal, OrderSays, Lists};
-ghost use Rattle.listing.specs.Masks.{maskOf, blocking, free, picks, Slots};
+ghost use Rattle.base.specs.Masks.{maskOf};
+ghost use Rattle.listing.specs.Masks.{blocking, free, picks, Slots};
 ghost use Rattle.listing.specs.Cells.{setWords, inSet, withCell, Holds, CellsAt};
 
 // What the listed order answers.

@@ -4,8 +4,8 @@ use Prim.Native.Nat.{_≤_, _-_}
 use native.Mathlib.Omega.{arith}
 use borrow.Author.Needs.{needs}
 use Rattle.listing.specs.Listing.{isCommitted}
-use Rattle.listing.specs.Masks.{maskOf}
-use Rattle.listing.proofs.Masks.{mask-lt, mask-next, mask-start}
+use Rattle.base.specs.Masks.{maskOf}
+use Rattle.base.proofs.Masks.{mask-lt, mask-next, mask-start}
 use Rattle.listing.proofs.committed_mask.Statement.{statement}
 use Rattle.listing.proofs.committed_mask.Tie as tie
 

@@ -7,7 +7,8 @@ use lib.ListN.{length, getD, length-set}
 use borrow.Author.Needs.{needs}
 use Rattle.image.specs.Limits.{maxPrograms}
 use Rattle.listing.specs.Listing.{isCommitted}
-use Rattle.listing.specs.Masks.{maskOf, blocking}
+use Rattle.base.specs.Masks.{maskOf}
+use Rattle.listing.specs.Masks.{blocking}
 use Rattle.listing.proofs.Turns.{table-more}
 use Rattle.listing.proofs.fill_blockers.Statement.{statement}
 use Rattle.listing.proofs.fill_blockers.Tie as tie

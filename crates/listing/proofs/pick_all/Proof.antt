@@ -5,7 +5,7 @@ use Prim.Native.Nat.{_+_, _≤_, _-_}
 use native.Mathlib.Omega.{arith}
 use borrow.Author.Needs.{needs}
 use Rattle.base.proofs.Numbers.{first-le}
-use Rattle.listing.proofs.Masks.{shifted}
+use Rattle.base.proofs.Masks.{shifted}
 use Rattle.listing.proofs.Turns.{Taking, taking-start, taking-turn, taking-stuck, taking-full}
 use Rattle.listing.proofs.pick_all.Statement.{statement}
 use Rattle.listing.proofs.pick_all.Tie as tie

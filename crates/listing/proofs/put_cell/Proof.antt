@@ -2,8 +2,9 @@
 use Prim.Native.Nat.{_%_}
 use native.Mathlib.Omega.{arith}
 use borrow.Author.Needs.{needs}
-use Rattle.listing.specs.Cells.{wordBits, withCell}
-use Rattle.listing.proofs.Masks.{shifted}
+use Rattle.base.specs.Masks.{wordBits}
+use Rattle.base.proofs.Masks.{shifted}
+use Rattle.listing.specs.Cells.{withCell}
 use Rattle.listing.proofs.put_cell.Statement.{statement}
 use Rattle.listing.proofs.put_cell.Tie as tie
 

@@ -3,8 +3,9 @@ use mathlib.Core.Path.{_≡_, sym, _∙_}
 use Prim.Native.Nat.{_≤_, _-_}
 use native.Mathlib.Omega.{arith}
 use borrow.Author.Needs.{needs}
-use Rattle.listing.specs.Masks.{maskOf, blocking}
-use Rattle.listing.proofs.Masks.{mask-lt, mask-next, mask-start}
+use Rattle.base.specs.Masks.{maskOf}
+use Rattle.base.proofs.Masks.{mask-lt, mask-next, mask-start}
+use Rattle.listing.specs.Masks.{blocking}
 use Rattle.listing.proofs.readers_of.Statement.{statement}
 use Rattle.listing.proofs.readers_of.Tie as tie
 

@@ -1,7 +1,7 @@
 -- The mask has no bit from j on, so setting bit j adds it. Assumes nothing.
 use native.Mathlib.Omega.{arith}
 use borrow.Author.Needs.{needs}
-use Rattle.listing.proofs.Masks.{bit-in}
+use Rattle.base.proofs.Masks.{bit-in}
 use Rattle.listing.proofs.with_bit.Statement.{statement}
 use Rattle.listing.proofs.with_bit.Tie as tie
 
