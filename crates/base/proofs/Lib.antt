@@ -1,5 +1,4 @@
 pub mod Bools
-pub mod Calls
 pub mod Counts
 pub mod Joins
 pub mod Members

@@ -57,10 +57,3 @@ meets (x ∷ xs) ys = has x ys || meets xs ys
 -- the n members from a place on
 unfoldable pub words : ℕ → ℕ → List ℕ → List ℕ
 words at n xs = take n (drop at xs)
-
--- ---- calls
-
--- what is done, unless there is a refusal: 0 is none
-abbrev pub unless : {A : Type 0} → ℕ → (ℕ → A) → A → A
-unless zero refused done = done
-unless (suc r) refused done = refused (suc r)

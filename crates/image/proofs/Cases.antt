@@ -4,7 +4,6 @@ use mathlib.Core.Path.{_≡_, refl}
 use mathlib.Core.List.{List, [], _∷_, _++_, map}
 use lib.ListN.{length, take, replicate}
 use Rattle.image.specs.Limits.{maxPrograms, maxInstructions, maxProgramBytes, headBytes, minBytes, maxBytes}
-use Rattle.image.specs.Refusals.{badSize, badHeader, badOffsets, badInstruction, noSuchProgram}
 use Rattle.image.specs.Image.{refusalOf, programRefusalOf, programOf, startOf}
 use Rattle.image.specs.Opened.{opened}
 use Rattle.image.proofs.Assembler.{Instruction, instruction, end, set, load, store, add, sub, skipless, skipequal, reject}
@@ -12,7 +11,7 @@ use Rattle.image.proofs.Assembler.{program, fields, image}
 
 -- each of these images gets this refusal, 0 for none
 abbrev pub Earns : ℕ → List (List ℕ) → Type 0
-Earns refusal images = map refusalOf images ≡ map (λ i. refusal) images
+Earns refusal images = map (λ i. refusalOf i .number) images ≡ map (λ i. refusal) images
 
 -- ---- the limits that are computed from others are document 01's numbers
 
@@ -72,7 +71,7 @@ case-7 = (refl, refl)
 abbrev pub skipping : ℕ → List ℕ
 skipping c = image 0 (program (skipless 0 1 c ∷ end ∷ []) ∷ [])
 
-case-14 : Earns 0 (skipping 1 ∷ []) × Earns badInstruction (skipping 2 ∷ [])
+case-14 : Earns 0 (skipping 1 ∷ []) × Earns 4 (skipping 2 ∷ [])
 unfolding opened
 case-14 = (refl, refl)
 
@@ -87,19 +86,19 @@ full-is-good = (refl, refl)
 
 -- ---- 1: 5 bytes, 8327 bytes
 
-earn-1 : Earns badSize (take 5 empty ∷ (full ++ (0 ∷ [])) ∷ [])
+earn-1 : Earns 1 (take 5 empty ∷ (full ++ (0 ∷ [])) ∷ [])
 unfolding opened
 earn-1 = refl
 
 -- ---- 2: count 65, and one that is only in the high byte; rule 3; byte 3 not 0
 
-earn-2 : Earns badHeader (fields 65 0 0 (6 ∷ []) [] ∷ fields 256 0 0 (6 ∷ []) [] ∷ fields 0 3 0 (6 ∷ []) [] ∷ fields 0 0 1 (6 ∷ []) [] ∷ [])
+earn-2 : Earns 2 (fields 65 0 0 (6 ∷ []) [] ∷ fields 256 0 0 (6 ∷ []) [] ∷ fields 0 3 0 (6 ∷ []) [] ∷ fields 0 0 1 (6 ∷ []) [] ∷ [])
 unfolding opened
 earn-2 = refl
 
 -- ---- 3: under 2n+6 bytes; the first offset wrong; offsets fall; a length that is no multiple of 4; one of 132; the last offset not the length
 
-earn-3 : Earns badOffsets (
+earn-3 : Earns 3 (
     fields 1 0 0 (8 ∷ []) []
     ∷ fields 0 0 0 (7 ∷ []) (0 ∷ [])
     ∷ fields 2 0 0 (10 ∷ 18 ∷ 14 ∷ []) end
@@ -120,53 +119,53 @@ good-instructions : Earns 0 (map alone (
 unfolding opened
 good-instructions = refl
 
-unknown-operation : Earns badInstruction (map alone (instruction 9 0 0 0 ∷ instruction 255 0 0 0 ∷ []))
+unknown-operation : Earns 4 (map alone (instruction 9 0 0 0 ∷ instruction 255 0 0 0 ∷ []))
 unfolding opened
 unknown-operation = refl
 
-register-over-7 : Earns badInstruction (map alone (
+register-over-7 : Earns 4 (map alone (
     set 8 0 ∷ load 8 0 ∷ load 0 8 ∷ store 8 0 ∷ store 0 8 ∷ add 8 0 0 ∷ add 0 8 0 ∷ add 0 0 8 ∷ sub 8 0 0 ∷ sub 0 8 0 ∷ sub 0 0 8
     ∷ skipless 8 0 0 ∷ skipless 0 8 0 ∷ skipequal 8 0 0 ∷ skipequal 0 8 0 ∷ []))
 unfolding opened
 register-over-7 = refl
 
-unused-byte-not-0 : Earns badInstruction (map alone (
+unused-byte-not-0 : Earns 4 (map alone (
     instruction 0 1 0 0 ∷ instruction 0 0 1 0 ∷ instruction 0 0 0 1 ∷ instruction 2 0 0 1 ∷ instruction 3 0 0 1
     ∷ instruction 8 0 1 0 ∷ instruction 8 0 0 1 ∷ []))
 unfolding opened
 unused-byte-not-0 = refl
 
-skip-past-the-end : Earns badInstruction (map alone (skipless 0 0 1 ∷ skipequal 0 0 1 ∷ []))
+skip-past-the-end : Earns 4 (map alone (skipless 0 0 1 ∷ skipequal 0 0 1 ∷ []))
 unfolding opened
 skip-past-the-end = refl
 
 -- in any program, also where no run arrives
-never-reached : Earns badInstruction (image 0 (program (end ∷ []) ∷ program (end ∷ instruction 9 0 0 0 ∷ []) ∷ []) ∷ [])
+never-reached : Earns 4 (image 0 (program (end ∷ []) ∷ program (end ∷ instruction 9 0 0 0 ∷ []) ∷ []) ∷ [])
 unfolding opened
 never-reached = refl
 
 -- ---- the order of the checks: where two fail, the first in the list speaks. (Of 2 before 3, see count 65 above, in 6 bytes.)
 
-size-before-header : Earns badSize (take 5 (fields 65 0 0 (6 ∷ []) []) ∷ [])
+size-before-header : Earns 1 (take 5 (fields 65 0 0 (6 ∷ []) []) ∷ [])
 unfolding opened
 size-before-header = refl
 
-offsets-before-instructions : Earns badOffsets ((alone (instruction 9 0 0 0) ++ (0 ∷ [])) ∷ [])
+offsets-before-instructions : Earns 3 ((alone (instruction 9 0 0 0) ++ (0 ∷ [])) ∷ [])
 unfolding opened
 offsets-before-instructions = refl
 
 -- ---- handing back
 
 handed-back : (programOf (example-1 1) 1 ≡ combine sub y) × (startOf (example-1 1) 1 ≡ headBytes 3 + length increment)
-    × (programRefusalOf (example-1 1) 1 ≡ 0)
+    × (programRefusalOf (example-1 1) 1 .number ≡ 0)
 unfolding opened
 handed-back = (refl, refl, refl)
 
-no-program-3 : (programOf (example-1 1) 3 ≡ []) × (startOf (example-1 1) 3 ≡ 0) × (programRefusalOf (example-1 1) 3 ≡ noSuchProgram)
+no-program-3 : (programOf (example-1 1) 3 ≡ []) × (startOf (example-1 1) 3 ≡ 0) × (programRefusalOf (example-1 1) 3 .number ≡ 8)
 unfolding opened
 no-program-3 = (refl, refl, refl)
 
 -- the image's own refusal comes first, and nothing is handed back of such an image
-refused-image : (programOf (skipping 2) 0 ≡ []) × (startOf (skipping 2) 0 ≡ 0) × (programRefusalOf (skipping 2) 3 ≡ badInstruction)
+refused-image : (programOf (skipping 2) 0 ≡ []) × (startOf (skipping 2) 0 ≡ 0) × (programRefusalOf (skipping 2) 3 .number ≡ 4)
 unfolding opened
 refused-image = (refl, refl, refl)

@@ -8,17 +8,18 @@ use native.Mathlib.Omega.{arith}
 use borrow.Author.Tests.{leb-true, ltb-true, eqb-true, lt-ltb, le-ltb}
 use lib.ListN.{length}
 use lib.Dec.{leb, ltb, eqb}
-use Rattle.base.specs.Words.{every, unless}
+use Rattle.base.specs.Words.{every}
 use Rattle.base.proofs.Bools.{and-left, and-right}
-use Rattle.base.proofs.Calls.{unless-refused, unless-none}
 use Rattle.base.proofs.Numbers.{every-at, every-false}
 use Rattle.base.proofs.Parts.{words-length}
 use Rattle.image.specs.Limits.{maxPrograms, instructionBytes, maxProgramBytes, headBytes}
-use Rattle.image.specs.Refusals.{badSize, badHeader, badOffsets, badInstruction, noSuchProgram}
+use Rattle.image.specs.declared.Refusal.{Refusal}
+use Rattle.image.specs.Refusals as refusal
 use Rattle.image.specs.Instruction.{instructionsOf, placeGood, programGood}
 use Rattle.image.specs.Image.{byteAt, countOf, ruleByte, headerOf, offsetOf, bytesOf, partOf, sizeGood, headerGood}
 use Rattle.image.specs.Image.{holdsOffsets, firstGood, rises, whole, short, extentGood, extentsGood, lastGood, offsetsGood, codeGood}
 use Rattle.image.specs.Image.{refusalOf, programRefusalOf, programOf, startOf}
+use Rattle.image.proofs.Refusing.{goes-on, none-fails, none-after, unless-refused, unless-done}
 
 -- ---- check 3: the programs of an image lie inside it, one after another
 
@@ -112,24 +113,18 @@ pub record Accepted (image : List ℕ) : Type 0 where
   pub offsets : offsetsGood image ≡ true
   pub code : codeGood image ≡ true
 
-all-passed : (a b c d : Bool)
-    → cond {A = ℕ} a (cond b (cond c (cond d 0 badInstruction) badOffsets) badHeader) badSize ≡ 0
-    → (a ≡ true) × (b ≡ true) × (c ≡ true) × (d ≡ true)
-all-passed true true true true e = (refl, refl, refl, refl)
-all-passed true true true false e = absurd (omega arith)
-all-passed true true false d e = absurd (omega arith)
-all-passed true false c d e = absurd (omega arith)
-all-passed false b c d e = absurd (omega arith)
-
-pub accepted : (image : List ℕ) → refusalOf image ≡ 0 → Accepted image
+pub accepted : (image : List ℕ) → refusalOf image .number ≡ 0 → Accepted image
 unfolding refusalOf
 accepted image e =
-    let a = all-passed (sizeGood image) (headerGood (headerOf image)) (offsetsGood image) (codeGood image) e in
-    record { size = a .0; header = a .1; offsets = a .2; code = a .3 }
+    let a = none-fails (sizeGood image) refusal.imageSize _ (λ z. omega arith) e in
+    let b = none-fails (headerGood (headerOf image)) refusal.header _ (λ z. omega arith) (a .1) in
+    let c = none-fails (offsetsGood image) refusal.offsets _ (λ z. omega arith) (b .1) in
+    let d = none-fails (codeGood image) refusal.instruction _ (λ z. omega arith) (c .1) in
+    record { size = a .0; header = b .0; offsets = c .0; code = d .0 }
 
-pub accepted-is : (image : List ℕ) → Accepted image → refusalOf image ≡ 0
+pub accepted-is : (image : List ℕ) → Accepted image → refusal.none ≡ refusalOf image
 unfolding refusalOf
-accepted-is image a = rw (a .size, a .header, a .offsets, a .code)
+accepted-is image a = goes-on _ (a .size) (goes-on _ (a .header) (goes-on _ (a .offsets) (goes-on _ (a .code) refl)))
 
 pub few-programs : (image : List ℕ) → headerGood (headerOf image) ≡ true → countOf image ≤ maxPrograms
 unfolding headerGood
@@ -140,50 +135,22 @@ few-programs image h =
 
 -- ---- a program that is handed back
 
-pub handed-back : (image : List ℕ) (p : ℕ) → programRefusalOf image p ≡ 0 → (refusalOf image ≡ 0) × (p < countOf image)
+pub handed-back : (image : List ℕ) (p : ℕ) → programRefusalOf image p .number ≡ 0 → (refusalOf image .number ≡ 0) × (p < countOf image)
 unfolding programRefusalOf
-handed-back image p e = let passed = unless-none (refusalOf image) _ e in (passed .0, go (ltb p (countOf image)) refl (passed .1))
-  where
-    go : (b : Bool) → ltb p (countOf image) ≡ b → cond b 0 noSuchProgram ≡ 0 → p < countOf image
-    go true f z = ltb-true _ _ f
-    go false f z = absurd (omega arith)
+handed-back image p e =
+    let a = none-after (refusalOf image) _ e in
+    let b = none-fails (ltb p (countOf image)) refusal.number _ (λ z. omega arith) (a .1) in
+    (a .0, ltb-true _ _ (b .0))
 
-pub handed-low : (image : List ℕ) (p : ℕ) → programRefusalOf image p ≡ 0 → p < maxPrograms
+pub handed-low : (image : List ℕ) (p : ℕ) → programRefusalOf image p .number ≡ 0 → p < maxPrograms
 handed-low image p e = let h = handed-back image p e in omega (arith, few-programs image (accepted image (h .0) .header))
 
-pub program-found : (image : List ℕ) (p : ℕ) → refusalOf image ≡ 0 → p < countOf image → programRefusalOf image p ≡ 0
-unfolding programRefusalOf
-program-found image p e l = rw (e, lt-ltb _ _ l)
-
-pub program-missing : (image : List ℕ) (p : ℕ) → refusalOf image ≡ 0 → countOf image ≤ p → programRefusalOf image p ≡ noSuchProgram
-unfolding programRefusalOf
-program-missing image p e l = rw (e, le-ltb _ _ l)
-
-pub program-refused : (image : List ℕ) (p : ℕ) → (refusalOf image ≡ 0 → ⊥) → programRefusalOf image p ≡ refusalOf image
-unfolding programRefusalOf
-program-refused image p h = unless-refused (refusalOf image) (λ r. r) (cond (ltb p (countOf image)) 0 noSuchProgram) h
-
 -- it is its part of the image, from its offset on; on a refusal it is empty
-pub handed-part : (image : List ℕ) (p : ℕ) → programRefusalOf image p ≡ 0
+pub handed-part : (image : List ℕ) (p : ℕ) → programRefusalOf image p .number ≡ 0
     → (programOf image p ≡ partOf image p) × (startOf image p ≡ offsetOf image p)
 unfolding programOf startOf
-handed-part image p e = (rw e, rw e)
+handed-part image p e = (unless-done (programRefusalOf image p) _ _ e, unless-done (programRefusalOf image p) _ _ e)
 
-pub handed-nothing : (image : List ℕ) (p : ℕ) → (programRefusalOf image p ≡ 0 → ⊥) → (programOf image p ≡ []) × (startOf image p ≡ 0)
+pub handed-nothing : (image : List ℕ) (p : ℕ) → (programRefusalOf image p .number ≡ 0 → ⊥) → (programOf image p ≡ []) × (startOf image p ≡ 0)
 unfolding programOf startOf
 handed-nothing image p h = (unless-refused (programRefusalOf image p) _ _ h, unless-refused (programRefusalOf image p) _ _ h)
-
--- what a runner is handed: at most 32 instructions, each of them good
-pub program-short : (image : List ℕ) (p : ℕ) → length (programOf image p) ≤ maxProgramBytes
-unfolding programOf
-program-short image p = go (programRefusalOf image p) refl
-  where
-    go : (r : ℕ) → programRefusalOf image p ≡ r → length (unless r (λ r. []) (partOf image p)) ≤ maxProgramBytes
-    go zero e = let h = handed-back image p e in part-short image (accepted image (h .0) .offsets) p (h .1)
-    go (suc r) e = zero-le
-
-pub program-checked : (image : List ℕ) (p : ℕ) → programRefusalOf image p ≡ 0 → programGood (programOf image p) ≡ true
-unfolding codeGood
-program-checked image p e =
-    let h = handed-back image p e in
-    rw (handed-part image p e .0) (every-at (countOf image) (λ q. programGood (partOf image q)) (accepted image (h .0) .code) p (h .1))

@@ -1,4 +1,5 @@
 pub mod Assembler
 pub mod Cases
 pub mod Laws
+pub mod Refusing
 pub mod Unique

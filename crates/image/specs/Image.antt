@@ -1,16 +1,18 @@
 -- Document 01, "The image: counts and offsets": which lists of bytes are an image, which refusal the others get, and which part of the image a
 -- program is. Assumes nothing.
 use Prim.Native.Nat.{ℕ, _+_, _-_, _*_, _%_}
-use mathlib.Core.Bool.{Bool, _&&_, cond}
+use mathlib.Core.Bool.{Bool, _&&_}
 use mathlib.Core.List.{List, []}
 use mathlib.Core.Path.{_≡_}
 use lib.ListN.{length, getD}
 use lib.Dec.{ltb, leb, eqb}
 use denote.Ref.{RefT, now, ptr}
-use Rattle.base.specs.Words.{every, words, unless}
+use Rattle.base.specs.Words.{every, words}
 use Rattle.image.specs.declared.Image.{Image}
 use Rattle.image.specs.Limits.{maxPrograms, instructionBytes, maxProgramBytes, headBytes, minBytes, maxBytes}
-use Rattle.image.specs.Refusals.{badSize, badHeader, badOffsets, badInstruction, noSuchProgram}
+use Rattle.image.specs.declared.Refusal.{Refusal}
+use Rattle.image.specs.Refusals as refusal
+use Rattle.image.specs.Refusals.{check, after, unless}
 use Rattle.image.specs.Instruction.{programGood}
 
 -- the byte at a place, 0 past the end
@@ -87,20 +89,18 @@ offsetsGood image = holdsOffsets image && firstGood image && extentsGood image &
 unfoldable pub codeGood : List ℕ → Bool
 codeGood image = every (countOf image) (λ p. programGood (partOf image p))
 
--- The refusal of an image: the first of the checks 1 to 4 that fails, 0 where none does.
-unfoldable pub refusalOf : List ℕ → ℕ
+-- The refusal of an image: of the first of the checks 1 to 4 that fails.
+unfoldable pub refusalOf : List ℕ → Refusal
 refusalOf image =
-    cond (sizeGood image)
-    (cond (headerGood (headerOf image))
-    (cond (offsetsGood image)
-    (cond (codeGood image) 0 badInstruction)
-    badOffsets)
-    badHeader)
-    badSize
+    check (sizeGood image) refusal.imageSize
+    (check (headerGood (headerOf image)) refusal.header
+    (check (offsetsGood image) refusal.offsets
+    (check (codeGood image) refusal.instruction
+    refusal.none)))
 
 -- Handing back program p: "checks 1 to 4 and 8".
-unfoldable pub programRefusalOf : List ℕ → ℕ → ℕ
-programRefusalOf image p = unless (refusalOf image) (λ r. r) (cond (ltb p (countOf image)) 0 noSuchProgram)
+unfoldable pub programRefusalOf : List ℕ → ℕ → Refusal
+programRefusalOf image p = after (refusalOf image) (check (ltb p (countOf image)) refusal.number refusal.none)
 
 -- "returns the part alone, empty on a refusal": its bytes, and where in the image it begins
 unfoldable pub programOf : List ℕ → ℕ → List ℕ
@@ -119,5 +119,5 @@ pub record ProgramSays (image : RefT (List ℕ)) (p : ℕ) (r : RefT (List ℕ))
   pub part : Part image (startOf (now image) p) (programOf (now image) p) r
 
 -- "a second call on the same two returns the refusal's number, or 0"
-pub record ProgramRefusalSays (image : List ℕ) (p : ℕ) (r : ℕ) : Type 0 where
+pub record ProgramRefusalSays (image : List ℕ) (p : ℕ) (r : Refusal) : Type 0 where
   pub answer : r ≡ programRefusalOf image p

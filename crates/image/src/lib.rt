@@ -3,7 +3,7 @@ ghost use mathlib.Core.Path.{_≡_};
 ghost use mathlib.Core.Bool.{true};
 ghost use Prim.Native.Nat.{_^_, _<_, _≤_};
 ghost use Rattle.image.specs.Image.{byteAt, numberAt, countOf, ruleByte, headerOf, secondRule, offsetOf, partOf, Part, startOf};
-ghost use Rattle.image.specs.Image.{headerGood, extentGood, extentsGood, offsetsGood, codeGood, refusalOf};
+ghost use Rattle.image.specs.Image.{sizeGood, headerGood, extentGood, extentsGood, offsetsGood, codeGood, refusalOf};
 ghost use Rattle.image.specs.Image.{ProgramSays, ProgramRefusalSays};
 
 mod instruction;
@@ -58,38 +58,40 @@ impl Image {
     }
 }
 
-// A refusal, by its number in document 01; the numbers are named here and nowhere else.
+// A refusal, by its number in document 01; the refusals are named here and nowhere else.
 pub struct Refusal {
     pub number: u32,
 }
 
 impl Refusal {
-    pub const SIZE: u32 = 1;
+    pub const NONE: Refusal = Refusal { number: 0 };
 
-    pub const HEADER: u32 = 2;
+    pub const IMAGE_SIZE: Refusal = Refusal { number: 1 };
 
-    pub const OFFSETS: u32 = 3;
+    pub const HEADER: Refusal = Refusal { number: 2 };
 
-    pub const INSTRUCTION: u32 = 4;
+    pub const OFFSETS: Refusal = Refusal { number: 3 };
 
-    pub const TABLE: u32 = 5;
+    pub const INSTRUCTION: Refusal = Refusal { number: 4 };
 
-    pub const AREA_SIZE: u32 = 6;
+    pub const TABLE_SIZE: Refusal = Refusal { number: 5 };
 
-    pub const AREA: u32 = 7;
+    pub const AREA_SIZE: Refusal = Refusal { number: 6 };
 
-    pub const NO_SUCH_PROGRAM: u32 = 8;
+    pub const AREA: Refusal = Refusal { number: 7 };
 
-    pub const WRONG_STATE: u32 = 9;
+    pub const NUMBER: Refusal = Refusal { number: 8 };
 
-    pub const NO_ROOM: u32 = 10;
+    pub const STATE: Refusal = Refusal { number: 9 };
 
-    pub const TOO_MANY: u32 = 11;
+    pub const TOO_SHORT: Refusal = Refusal { number: 10 };
 
-    pub const NO_ORDER: u32 = 12;
+    pub const TOO_MANY: Refusal = Refusal { number: 11 };
+
+    pub const NO_ORDER: Refusal = Refusal { number: 12 };
 
     // What a refusal of 1 to 4 adds to its number where the fresh image earns it.
-    pub const OF_FRESH: u32 = 20;
+    pub const FRESH: u32 = 20;
 }
 
 // The byte at a place, 0 past the end.
@@ -215,15 +217,22 @@ fn code_good(bytes: &[u8], n: usize) -> bool
     good
 }
 
-// The refusal of an image: the number of the first of the checks 1 to 4 that fails, 0 where none does.
-pub fn image_refusal(bytes: &[u8]) -> u32
-    ensures { λ r. ⌜ r ≡ refusalOf (now (bytes .entry)) ⌝ }
+// Check 1.
+fn size_good(bytes: &[u8]) -> bool
+    ensures { λ r. ⌜ r ≡ sizeGood (now (bytes .entry)) ⌝ }
 {
     if bytes.len() < Image::LEAST_BYTES {
-        return Refusal::SIZE;
+        return false;
     }
-    if Image::BYTES < bytes.len() {
-        return Refusal::SIZE;
+    bytes.len() <= Image::BYTES
+}
+
+// The refusal of an image: of the first of the checks 1 to 4 that fails.
+pub fn image_refusal(bytes: &[u8]) -> Refusal
+    ensures { λ r. ⌜ r ≡ refusalOf (now (bytes .entry)) ⌝ }
+{
+    if !size_good(bytes) {
+        return Refusal::IMAGE_SIZE;
     }
     let image = Image::header(bytes);
     if !image.valid() {
@@ -236,21 +245,21 @@ pub fn image_refusal(bytes: &[u8]) -> u32
     if !code_good(bytes, n) {
         return Refusal::INSTRUCTION;
     }
-    0
+    Refusal::NONE
 }
 
-// Why no program is handed back: checks 1 to 4 and 8, 0 where one is.
-pub fn program_refusal(image: &[u8], number: usize) -> u32
+// Why no program is handed back: checks 1 to 4 and 8.
+pub fn program_refusal(image: &[u8], number: usize) -> Refusal
     ensures { λ r. ⌜ ProgramRefusalSays (now (image .entry)) number r ⌝ }
 {
     let refused = image_refusal(image);
-    if refused != 0 {
+    if refused.number != 0 {
         return refused;
     }
     if number < count(image) {
-        0
+        Refusal::NONE
     } else {
-        Refusal::NO_SUCH_PROGRAM
+        Refusal::NUMBER
     }
 }
 
@@ -258,7 +267,7 @@ pub fn program_refusal(image: &[u8], number: usize) -> u32
 pub fn program(image: &[u8], number: usize) -> &[u8]
     ensures { λ r. ⌜ ProgramSays (image .entry) number r ⌝ }
 {
-    if program_refusal(image, number) == 0 {
+    if program_refusal(image, number).number == 0 {
         part_of(image, number)
     } else {
         &image[..0]
@@ -269,7 +278,7 @@ pub fn program(image: &[u8], number: usize) -> &[u8]
 pub fn program_start(image: &[u8], number: usize) -> usize
     ensures { λ r. ⌜ r ≡ startOf (now (image .entry)) number ⌝ }
 {
-    if program_refusal(image, number) == 0 {
+    if program_refusal(image, number).number == 0 {
         offset(image, number)
     } else {
         0

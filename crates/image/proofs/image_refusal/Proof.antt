@@ -1,50 +1,49 @@
--- `image_refusal` meets its contract: what each check left is said once, and each `return` rewrites with the checks that led there. Assumes nothing.
-use mathlib.Core.Path.{_≡_, ap, sym, _∙_}
+-- `image_refusal` meets its contract: at each return the checks that led there have passed, and the last of them fails. Assumes nothing.
+use mathlib.Core.Path.{_≡_, ap, refl, sym, _∙_}
 use mathlib.Core.Bool.{true}
 use mathlib.Core.List.{List}
 use Prim.Native.Nat.{ℕ}
 use native.Mathlib.Omega.{arith}
 use borrow.Author.Needs.{needs}
-use borrow.Author.Tests.{lt-leb, le-leb, not-true, not-false}
+use borrow.Author.Tests.{not-false}
 use denote.Ref.{now}
 use Rattle.image.specs.declared.Image.{Image}
-use Rattle.image.specs.Image.{countOf, sizeGood, headerOf, headerGood, offsetsGood, refusalOf}
+use Rattle.image.specs.Image.{countOf, headerOf, sizeGood, headerGood, offsetsGood, refusalOf}
+use Rattle.image.proofs.Refusing.{goes-on, refuses, accepts}
 use Rattle.image.proofs.image_refusal.Statement.{statement}
 use Rattle.image.proofs.image_refusal.Tie as tie
 
--- where check 1 has passed, seen from where check 2 has, and that from where check 3 has
-abbrev sized : tie.Else3 → tie.Else2
-sized c = c .before .before .before
-
-abbrev headed : tie.Else4 → tie.Else3
-headed c = c .before .before .before
-
-abbrev image : tie.Else2 → List ℕ
+abbrev image : tie.Else1 → List ℕ
 image c = now (c .before .before .before .args .bytes)
 
-size-good : (c : tie.Else2) → sizeGood (image c) ≡ true
-unfolding sizeGood
-size-good c = simp (le-leb _ _ (c .before .if1 .left), le-leb _ _ (c .if2 .left))
+size-is-good : (c : tie.Else1) → sizeGood (image c) ≡ true
+size-is-good c = sym (c .before .size-good .ensures) ∙ not-false _ (c .if1 .left)
 
 valid-is : (c : tie.After-valid) → c .valid .result ≡ headerGood (headerOf (image (c .before .before)))
 valid-is c = c .valid .ensures ∙ ap headerGood (c .before .header .ensures)
 
-header-good : (c : tie.Else3) → headerGood (headerOf (image (sized c))) ≡ true
-header-good c = sym (valid-is (c .before)) ∙ not-false _ (c .if3 .left)
+-- where check 1 has passed, seen from where check 2 has, and that from where check 3 has
+abbrev sized : tie.Else2 → tie.Else1
+sized c = c .before .before .before
 
-count-is : (c : tie.Else3) → c .before .before .header .result .count ≡ countOf (image (sized c))
+abbrev headed : tie.Else3 → tie.Else2
+headed c = c .before .before .before
+
+header-is-good : (c : tie.Else2) → headerGood (headerOf (image (sized c))) ≡ true
+header-is-good c = sym (valid-is (c .before)) ∙ not-false _ (c .if2 .left)
+
+count-is : (c : tie.Else2) → c .before .before .header .result .count ≡ countOf (image (sized c))
 count-is c = ap (λ (h : Image). h .count) (c .before .before .header .ensures)
 
-offsets-are-good : (c : tie.Else4) → offsetsGood (image (sized (headed c))) ≡ true
-offsets-are-good c = sym (c .before .offsets-good .ensures) ∙ not-false _ (c .if4 .left)
+offsets-are-good : (c : tie.Else3) → offsetsGood (image (sized (headed c))) ≡ true
+offsets-are-good c = sym (c .before .offsets-good .ensures) ∙ not-false _ (c .if3 .left)
+
+size-good-requires : tie.Need-size-good-requires
+size-good-requires c κs = search needs
 
 returns : tie.Need-returns
-unfolding refusalOf sizeGood
-returns c = simp (lt-leb _ _ (c .if1 .taken))
-
-returns-2 : tie.Need-returns-2
-unfolding refusalOf sizeGood
-returns-2 c = simp (le-leb _ _ (c .before .if1 .left), lt-leb _ _ (c .if2 .taken))
+unfolding refusalOf
+returns c = refuses _ (c .before .size-good .ensures) (c .if1 .taken)
 
 header-requires : tie.Need-header-requires
 header-requires c κs = search needs
@@ -52,9 +51,9 @@ header-requires c κs = search needs
 valid-requires : tie.Need-valid-requires
 valid-requires c κs = search needs
 
-returns-3 : tie.Need-returns-3
+returns-2 : tie.Need-returns-2
 unfolding refusalOf
-returns-3 c = simp (size-good (c .before .before .before), sym (valid-is (c .before)) ∙ not-true _ (c .if3 .taken))
+returns-2 c = goes-on _ (size-is-good (c .before .before .before)) (refuses _ (valid-is (c .before)) (c .if2 .taken))
 
 cast-n : tie.Need-cast-n
 cast-n c = search needs
@@ -62,49 +61,44 @@ cast-n c = search needs
 offsets-good-requires : tie.Need-offsets-good-requires
 offsets-good-requires c κs = (count-is (c .before), omega arith)
 
-returns-4 : tie.Need-returns-4
+returns-3 : tie.Need-returns-3
 unfolding refusalOf
-returns-4 c =
-    let passed = c .before .before .before in
-    simp (size-good (sized passed), header-good passed, sym (c .before .offsets-good .ensures) ∙ not-true _ (c .if4 .taken))
+returns-3 c =
+    let h = c .before .before .before in
+    goes-on _ (size-is-good (sized h)) (goes-on _ (header-is-good h) (refuses _ (c .before .offsets-good .ensures) (c .if3 .taken)))
 
 code-good-requires : tie.Need-code-good-requires
 code-good-requires c κs = (offsets-are-good c, count-is (headed c), omega arith)
 
+-- where checks 1 to 3 have passed
+returns-4 : tie.Need-returns-4
+unfolding refusalOf
+returns-4 c =
+    let o = c .before .before in
+    let h = headed o in
+    goes-on _ (size-is-good (sized h))
+    (goes-on _ (header-is-good h) (goes-on _ (offsets-are-good o) (refuses _ (c .before .code-good .ensures) (c .if4 .taken))))
+
 returns-5 : tie.Need-returns-5
 unfolding refusalOf
 returns-5 c =
-    let passed = c .before .before in
-    simp (
-      size-good (sized (headed passed)),
-      header-good (headed passed),
-      offsets-are-good passed,
-      sym (c .before .code-good .ensures) ∙ not-true _ (c .if5 .taken),
-    )
-
-returns-6 : tie.Need-returns-6
-unfolding refusalOf
-returns-6 c =
-    let passed = c .before .before in
-    simp (
-      size-good (sized (headed passed)),
-      header-good (headed passed),
-      offsets-are-good passed,
-      sym (c .before .code-good .ensures) ∙ not-false _ (c .if5 .left),
-    )
+    let o = c .before .before in
+    let h = headed o in
+    goes-on _ (size-is-good (sized h))
+    (goes-on _ (header-is-good h) (goes-on _ (offsets-are-good o) (accepts _ (c .before .code-good .ensures) (c .if4 .left) refl)))
 
 pub image-refusal-spec : {M : Type 1} → statement M
 image-refusal-spec =
     tie.close
     (tie.spec
+    size-good-requires
     returns
-    returns-2
     header-requires
     valid-requires
-    returns-3
+    returns-2
     cast-n
     offsets-good-requires
-    returns-4
+    returns-3
     code-good-requires
-    returns-5
-    returns-6)
+    returns-4
+    returns-5)

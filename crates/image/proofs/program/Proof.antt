@@ -1,24 +1,28 @@
 -- `program` meets its contract: where nothing is refused the offsets are good, so `part_of` gives that part; otherwise nothing is handed back.
 -- Assumes nothing.
-use mathlib.Core.Path.{_≡_, sym, _∙_}
+use mathlib.Core.Path.{_≡_, sym, ap, _∙_}
 use native.Mathlib.Nat.{zero-add}
 use native.Mathlib.Omega.{arith}
 use borrow.Author.Needs.{needs}
 use denote.Ref.{now}
 use Rattle.image.specs.Image.{programRefusalOf}
+use Rattle.image.proofs.Refusing.{number-of}
 use Rattle.image.proofs.Laws.{accepted, few-programs, handed-back, handed-part, handed-nothing}
 use Rattle.image.proofs.program.Statement.{statement}
 use Rattle.image.proofs.program.Tie as tie
 
-found : (c : tie.Then1) → programRefusalOf (now (c .before .before .before .args .image)) (c .before .before .before .args .number) ≡ 0
-found c = sym (c .before .program-refusal .ensures .answer) ∙ c .if1 .taken
+abbrev start : tie.After-program-refusal → tie.Start
+start c = c .before .before
+
+found : (c : tie.Then1) → let a = start (c .before .before) .args in programRefusalOf (now (a .image)) (a .number) .number ≡ 0
+found c = number-of (sym (c .before .before .program-refusal .ensures .answer)) ∙ c .if1 .taken
 
 program-refusal-requires : tie.Need-program-refusal-requires
 program-refusal-requires c κs = search needs
 
 part-of-requires : tie.Need-part-of-requires
 part-of-requires c κs =
-    let a = c .before .before .before .args in
+    let a = start (c .before .before) .args in
     let asked = handed-back (now (a .image)) (a .number) (found c) in
     let passed = accepted (now (a .image)) (asked .0) in
     let few = few-programs (now (a .image)) (passed .header) in
@@ -29,16 +33,16 @@ slice-aggregate-result c = search needs
 
 returns : tie.Need-returns
 returns c =
-    let a = c .before .before .before .before .args in
+    let a = start (c .before .before .before) .args in
     let given = c .part-of .ensures in
     let is = handed-part (now (a .image)) (a .number) (found (c .before)) in
     record { part = record { bytes-are = rw (is .0) (given .bytes-are); lies-at = rw (is .1) (given .lies-at) } }
 
 returns-2 : tie.Need-returns-2
 returns-2 c =
-    let a = c .before .before .before .before .args in
-    let answer = c .before .before .program-refusal .ensures .answer in
-    let none = handed-nothing (now (a .image)) (a .number) (λ e. c .before .if1 .left (answer ∙ e)) in
+    let said = c .before .before .before in
+    let a = start said .args in
+    let none = handed-nothing (now (a .image)) (a .number) (λ e. c .before .if1 .left (number-of (said .program-refusal .ensures .answer) ∙ e)) in
     record { part = record { bytes-are = rw (none .0); lies-at = rw (none .1, zero-add) } }
 
 pub program-spec : {M : Type 1} → statement M

@@ -4,28 +4,33 @@ use native.Mathlib.Omega.{arith}
 use borrow.Author.Needs.{needs}
 use denote.Ref.{now}
 use Rattle.image.specs.Image.{programRefusalOf}
+use Rattle.image.proofs.Refusing.{number-of}
 use Rattle.image.proofs.Laws.{handed-low, handed-part, handed-nothing}
 use Rattle.image.proofs.program_start.Statement.{statement}
 use Rattle.image.proofs.program_start.Tie as tie
 
-found : (c : tie.Then1) → programRefusalOf (now (c .before .before .before .args .image)) (c .before .before .before .args .number) ≡ 0
-found c = sym (c .before .program-refusal .ensures .answer) ∙ c .if1 .taken
+abbrev start : tie.After-program-refusal → tie.Start
+start c = c .before .before
+
+found : (c : tie.Then1) → let a = start (c .before .before) .args in programRefusalOf (now (a .image)) (a .number) .number ≡ 0
+found c = number-of (sym (c .before .before .program-refusal .ensures .answer)) ∙ c .if1 .taken
 
 program-refusal-requires : tie.Need-program-refusal-requires
 program-refusal-requires c κs = search needs
 
 offset-requires : tie.Need-offset-requires
-offset-requires c κs = let a = c .before .before .before .args in omega (arith, handed-low (now (a .image)) (a .number) (found c))
+offset-requires c κs = let a = start (c .before .before) .args in omega (arith, handed-low (now (a .image)) (a .number) (found c))
 
 returns : tie.Need-returns
 returns c =
-    let a = c .before .before .before .before .args in
+    let a = start (c .before .before .before) .args in
     c .offset .ensures .0 ∙ sym (handed-part (now (a .image)) (a .number) (found (c .before)) .1)
 
 returns-2 : tie.Need-returns-2
 returns-2 c =
-    let a = c .before .before .before .args in
-    sym (handed-nothing (now (a .image)) (a .number) (λ e. c .if1 .left (c .before .program-refusal .ensures .answer ∙ e)) .1)
+    let said = c .before .before in
+    let a = start said .args in
+    sym (handed-nothing (now (a .image)) (a .number) (λ e. c .if1 .left (number-of (said .program-refusal .ensures .answer) ∙ e)) .1)
 
 pub program-start-spec : {M : Type 1} → statement M
 program-start-spec =
