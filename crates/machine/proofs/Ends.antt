@@ -1,39 +1,33 @@
 -- The slot at a run's end: `finish`. Assumes nothing.
-use Prim.Native.Nat.{ℕ, _+_, _*_}
+use Prim.Native.Nat.{ℕ}
+use mathlib.Core.Bool.{Bool, true, false, cond}
 use mathlib.Core.List.{List}
 use mathlib.Core.Path.{_≡_, sym, ap, _∙_}
 use lib.ListN.{length, set, replicate}
-use Rattle.slot.specs.States.{waiting, gathered, rejected, faulted}
+use Rattle.slot.specs.States.{waiting}
 use Rattle.slot.specs.Layout.{stateWord, detailWord, slotWords}
 use Rattle.slot.specs.Log.{Log, empty, layout, logOf}
 use Rattle.slot.proofs.Slots.{layout-length, layout-log, layout-again, layout-waiting}
 use Rattle.machine.specs.declared.Run.{Run}
-use Rattle.machine.specs.declared.Run.the-variants.{Finished, Rejected, Faulted}
-use Rattle.machine.specs.Runs.{Outcome, runOf, stateOfRun, detailOfRun, kept, slotOf, Runnable}
+use Rattle.machine.specs.Runs.{Outcome, runOf, stateOfRun, detailOfRun, keeps, kept, slotOf, Runnable}
 use Rattle.machine.proofs.Laws.{run-fits}
 
 -- what `finish` leaves
 abbrev pub endOf : Run → Log → List ℕ
 endOf x l = layout (stateOfRun x) (detailOfRun x) (kept x l)
 
-pub end-finished : (s : List ℕ) (l : Log) (x : Run) → s ≡ layout waiting 0 l → x ≡ Finished → set s stateWord gathered ≡ endOf x l
-unfolding layout
-end-finished s l x e f = rw (e, f)
+-- a run that keeps its log leaves it; otherwise the slot that is cleared holds nothing
+pub log-kept : (s : List ℕ) (l : Log) (x : Run) (b : Bool) → s ≡ layout waiting 0 l → b ≡ keeps x → b ≡ true → s ≡ layout waiting 0 (kept x l)
+log-kept s l x b e f g = rw (← f, g) e
 
--- a slot that is cleared, with a state and a detail
-cleared : (s : List ℕ) (n state detail : ℕ) → s ≡ replicate n 0 → n ≡ slotWords
-    → set (set s stateWord state) detailWord detail ≡ layout state detail empty
-cleared s n state detail e f =
-    ap (λ (x : List ℕ). set (set x stateWord state) detailWord detail) (e ∙ (ap (λ (k : ℕ). replicate k 0) f ∙ sym layout-waiting))
-    ∙ layout-again waiting 0 empty state detail
+pub log-dropped : (s : List ℕ) (l : Log) (n : ℕ) (x : Run) (b : Bool) → s ≡ replicate n 0 → n ≡ slotWords → b ≡ keeps x → b ≡ false
+    → s ≡ layout waiting 0 (kept x l)
+log-dropped s l n x b e h f g = rw (← f, g) (e ∙ (ap (λ (k : ℕ). replicate k 0) h ∙ sym layout-waiting))
 
-pub end-rejected : (s : List ℕ) (l : Log) (n code : ℕ) (x : Run) → s ≡ replicate n 0 → n ≡ slotWords → x ≡ Rejected code
-    → set (set s stateWord rejected) detailWord code ≡ endOf x l
-end-rejected s l n code x e h f = cleared s n rejected code e h ∙ ap (λ (y : Run). endOf y l) (sym f)
-
-pub end-faulted : (s : List ℕ) (l : Log) (n kind at : ℕ) (x : Run) → s ≡ replicate n 0 → n ≡ slotWords → x ≡ Faulted kind at
-    → set (set s stateWord faulted) detailWord (256 * kind + at) ≡ endOf x l
-end-faulted s l n kind at x e h f = cleared s n faulted (256 * kind + at) e h ∙ ap (λ (y : Run). endOf y l) (sym f)
+-- and with the end's state and detail it is the end's
+pub end-written : (s : List ℕ) (l : Log) (x : Run) (state detail : ℕ) → s ≡ layout waiting 0 (kept x l) → state ≡ stateOfRun x → detail ≡ detailOfRun x
+    → set (set s stateWord state) detailWord detail ≡ endOf x l
+end-written s l x state detail e f g = rw (e, f, g) (layout-again waiting 0 (kept x l) (stateOfRun x) (detailOfRun x))
 
 -- the log of a run fits the slot that it is written into
 module _ (p t : List ℕ) (runs : Runnable p) {s : List ℕ} (e : s ≡ layout waiting 0 (runOf p t .log)) where

@@ -11,8 +11,9 @@ use Rattle.image.specs.Instruction.{byteOf, instructionsOf}
 use Rattle.slot.specs.States.{waiting}
 use Rattle.slot.specs.Layout.{listWords, slotWords}
 use Rattle.slot.specs.Log.{Log, empty, placeIn, layout, logOf, Fits, Holds, Marked}
-use Rattle.slot.proofs.Logs.{Room}
-use Rattle.slot.proofs.Slots.{empty-fits, layout-length, layout-log, layout-read-count, layout-store-count, layout-waiting}
+use Rattle.slot.proofs.Logs.{Room, empty-room}
+use Rattle.slot.specs.declared.ListKind.the-variants.{Reads, Stores}
+use Rattle.slot.proofs.Slots.{empty-fits, layout-length, layout-log, layout-count, layout-waiting}
 use Rattle.machine.specs.declared.Machine.{Machine}
 use Rattle.machine.specs.declared.Turned.{Turned}
 use Rattle.machine.specs.declared.Turn.the-variants.{Next, Stop}
@@ -82,7 +83,7 @@ going-start p t runs m slot marks at e f =
       is = e ∙ sym layout-waiting;
       enough = omega arith;
       budget = omega (arith, runs .short);
-      room = omega arith;
+      room = empty-room 0;
       fitting = empty-fits (length t);
       marked = record {
         marks-length = ap length f;
@@ -104,9 +105,9 @@ module _ {p t : List ℕ} {m : Machine} {slot marks : List ℕ} (runs : Runnable
       record {
         sized = going-words;
         read-room =
-            rw (g .is, layout-read-count waiting 0 (g .log)) (omega (arith, g .room .reads-room, g .budget, g .enough));
+            rw (g .is, layout-count waiting 0 (g .log) Reads) (omega (arith, g .room .room Reads, g .budget, g .enough));
         store-room =
-            rw (g .is, layout-store-count waiting 0 (g .log)) (omega (arith, g .room .cells-room, g .budget, g .enough));
+            rw (g .is, layout-count waiting 0 (g .log) Stores) (omega (arith, g .room .room Stores, g .budget, g .enough));
         paired = rw log-is (g .fitting .paired);
         is = g .is ∙ ap (layout waiting 0) (sym log-is);
       }

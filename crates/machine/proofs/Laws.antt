@@ -17,7 +17,7 @@ use Rattle.image.specs.Image.{countOf, refusalOf, partOf, codeGood}
 use Rattle.image.proofs.Laws.{accepted, part-short, part-whole}
 use Rattle.slot.specs.Layout.{stateWord, detailWord, listWords, slotWords}
 use Rattle.slot.specs.Log.{Log, empty, placeIn, valueBy, loaded, withRead, valuesBy, withStore, logOf, Fits}
-use Rattle.slot.proofs.Logs.{Room, read-fits, store-fits, read-room, store-room, same-room, read-keeps, store-keeps, loads-agree}
+use Rattle.slot.proofs.Logs.{Room, read-fits, store-fits, read-room, store-room, empty-room, same-room, read-keeps, store-keeps, loads-agree}
 use Rattle.slot.proofs.Slots.{zeros-at, empty-fits, layout-length, layout-state, layout-detail, layout-log}
 use Rattle.machine.specs.declared.Machine.{Machine}
 use Rattle.machine.specs.declared.Run.{Run}
@@ -92,7 +92,7 @@ unfolding runOf
 run-fits p t short =
     run-log p t (λ u l. u ≤ listWords → Fits (length t) l × Room u l) (λ u l h b. let w = h (omega arith) in (w .0, same-room u l (w .1)))
     (λ u m l h b. let w = h (omega arith) in turn-fits t u m l (askAt p m) (omega arith) (w .0) (w .1)) (instructionsOf p) 0 start empty
-    (λ b. (empty-fits (length t), omega arith)) (omega arith) .0
+    (λ b. (empty-fits (length t), empty-room 0)) (omega arith) .0
 
 -- ---- a run depends only on the cells it reads
 
@@ -275,7 +275,7 @@ module _ (p t : List ℕ) (short : length p ≤ maxProgramBytes) where
 -- ---- which programs can be run
 
 -- a program of an image that is not refused
-pub part-runnable : (image : List ℕ) → refusalOf image ≡ 0 → (k : ℕ) → k < countOf image → Runnable (partOf image k)
+pub part-runnable : (image : List ℕ) → refusalOf image .number ≡ 0 → (k : ℕ) → k < countOf image → Runnable (partOf image k)
 unfolding codeGood
 part-runnable image e k h =
     let g = accepted image e in

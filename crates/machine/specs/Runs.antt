@@ -2,7 +2,7 @@
 -- Assumes nothing.
 use Prim.Native.Nat.{ℕ, zero, suc, _+_, _*_, _%_, _≤_, _<_}
 use mathlib.Core.Path.{_≡_}
-use mathlib.Core.Bool.{true, cond}
+use mathlib.Core.Bool.{Bool, true, false, cond}
 use mathlib.Core.List.{List, [], _∷_, _++_}
 use lib.ListN.{length, getD}
 use lib.Dec.{ltb}
@@ -97,10 +97,13 @@ detailOfRun (Rejected code) = code
 detailOfRun (Faulted kind at) = 256 * kind + at
 
 -- "A program that rejects or faults stores nothing, reserves nothing"; "A rejected or faulted slot has only state and detail."
+abbrev pub keeps : Run → Bool
+keeps Finished = true
+keeps (Rejected code) = false
+keeps (Faulted kind at) = false
+
 abbrev pub kept : Run → Log → Log
-kept Finished l = l
-kept (Rejected code) l = empty
-kept (Faulted kind at) l = empty
+kept r l = cond (keeps r) l empty
 
 unfoldable pub slotOf : Outcome → List ℕ
 slotOf o = layout (stateOfRun (o .answer)) (detailOfRun (o .answer)) (kept (o .answer) (o .log))

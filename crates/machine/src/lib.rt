@@ -8,7 +8,7 @@ ghost use Rattle.slot.specs.States.{waiting};
 ghost use Rattle.slot.specs.Layout.{slotWords};
 ghost use Rattle.slot.specs.Log.{empty, layout, logOf};
 ghost use Rattle.machine.specs.Asks.{start, reg, written, passed, skipped, added, subtracted, fetch, put, askOf};
-ghost use Rattle.machine.specs.Runs.{stop, next, runOf, stateOfRun, detailOfRun, kept, turned, Named, Ready, Did, Runnable, RunSays};
+ghost use Rattle.machine.specs.Runs.{stop, next, runOf, stateOfRun, detailOfRun, keeps, kept, turned, Named, Ready, Did, Runnable, RunSays};
 
 // The eight registers and the place: the number of the instruction that is next.
 pub struct Machine {
@@ -257,26 +257,58 @@ fn take_turns(program: &[u8], table: &[u32], slot: &mut [u32], marks: &mut slot:
     Run::Finished
 }
 
+// The state that a run's end leaves.
+pub fn state_of(run: Run) -> u32
+    ensures { λ r. ⌜ r ≡ stateOfRun run ⌝ }
+{
+    match run {
+        Run::Finished => slot::GATHERED,
+        Run::Rejected(_) => slot::REJECTED,
+        Run::Faulted { kind: _, at: _ } => slot::FAULTED,
+    }
+}
+
+// The detail that it leaves: the reject code, or 256 × kind + instruction number.
+pub fn detail_of(run: Run) -> u32
+    ensures { λ r. ⌜ r ≡ detailOfRun run ⌝ }
+{
+    match run {
+        Run::Finished => 0,
+        Run::Rejected(code) => code as u32,
+        Run::Faulted { kind, at } => 256 * (kind as u32) + (at as u32),
+    }
+}
+
+// Whether a run keeps what it read and stored.
+fn keeps(run: Run) -> bool
+    ensures { λ r. ⌜ r ≡ keeps run ⌝ }
+{
+    match run {
+        Run::Finished => true,
+        Run::Rejected(_) => false,
+        Run::Faulted { kind: _, at: _ } => false,
+    }
+}
+
+// A run that rejects or faults keeps nothing of it.
+fn drop_log(slot: &mut [u32], run: Run)
+    requires { ⌜ (length (now slot) ≡ slotWords) × (now slot ≡ layout waiting 0 (logOf (now slot))) ⌝ }
+    ensures { λ _. ⌜ now (slot .exit) ≡ layout waiting 0 (kept run (logOf (now (slot .entry)))) ⌝ }
+{
+    if keeps(run) {
+        return;
+    }
+    slot::clear(slot);
+}
+
 // The slot of a run that has ended: a rejected or faulted one has only state and detail.
 fn finish(slot: &mut [u32], run: Run)
     requires { ⌜ (length (now slot) ≡ slotWords) × (now slot ≡ layout waiting 0 (logOf (now slot))) ⌝ }
     ensures { λ _. ⌜ now (slot .exit) ≡ layout (stateOfRun run) (detailOfRun run) (kept run (logOf (now (slot .entry)))) ⌝ }
 {
-    match run {
-        Run::Finished => {
-            slot[slot::STATE] = slot::GATHERED;
-        }
-        Run::Rejected(code) => {
-            slot::clear(slot);
-            slot[slot::STATE] = slot::REJECTED;
-            slot[slot::DETAIL] = code as u32;
-        }
-        Run::Faulted { kind, at } => {
-            slot::clear(slot);
-            slot[slot::STATE] = slot::FAULTED;
-            slot[slot::DETAIL] = 256 * (kind as u32) + (at as u32);
-        }
-    }
+    drop_log(slot, run);
+    slot[slot::STATE] = state_of(run);
+    slot[slot::DETAIL] = detail_of(run);
 }
 
 // The run of a program on a table: its answer, and its whole slot.

@@ -1,3 +1,4 @@
+pub mod ListKinds
 pub mod Places
 pub mod Logs
 pub mod Slots

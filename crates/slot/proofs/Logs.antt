@@ -6,14 +6,16 @@ use mathlib.Core.List.{List}
 use native.Mathlib.Omega.{arith}
 use lib.ListN.{length, length-set}
 use Rattle.base.specs.Words.{has}
+use Rattle.slot.specs.declared.ListKind.{ListKind}
+use Rattle.slot.specs.declared.ListKind.the-variants.{Reads, Stores}
 use Rattle.slot.specs.Layout.{listWords}
-use Rattle.slot.specs.Log.{Log, placeIn, onceBy, once, valueBy, loaded, readsBy, withRead, valuesBy, withStore, Fits}
+use Rattle.slot.specs.Log.{Log, cellsOf, empty, placeIn, onceBy, once, valueBy, loaded, readsBy, withRead, valuesBy, withStore, Fits}
+use Rattle.slot.proofs.ListKinds.{each-kind}
 use Rattle.slot.proofs.Places.{length-snoc, once-length, once-has, once-keeps, once-below, once-distinct}
 
 -- at most n reads and n stored cells
 pub record Room (n : ℕ) (l : Log) : Type 0 where
-  pub reads-room : length (l .reads) ≤ n
-  pub cells-room : length (l .cells) ≤ n
+  pub room : (k : ListKind) → length (cellsOf k l) ≤ n
 
 -- the reads after a load of cell c, at each place that c may have among the stored cells
 readsBy-length : (k c : ℕ) (reads : List ℕ) → length (readsBy k c reads) ≤ length reads + 1
@@ -28,13 +30,10 @@ module _ (T n : ℕ) (l : Log) (fits : Fits T l) (room : Room n l) (under : n < 
   readsBy-fits : (c k : ℕ) → c < T → Fits T (record { reads = readsBy k c (l .reads); cells = l .cells; values = l .values })
   readsBy-fits c zero h =
       record {
-        reads-in = once-below c (l .reads) T h (fits .reads-in);
-        cells-in = fits .cells-in;
-        reads-few = omega (arith, once-length c (l .reads));
-        cells-few = fits .cells-few;
+        inside = each-kind _ (once-below c (l .reads) T h (fits .inside Reads)) (fits .inside Stores);
+        few = each-kind _ (omega (arith, once-length c (l .reads), room .room Reads)) (fits .few Stores);
+        once-each = each-kind _ (once-distinct c (l .reads) (fits .once-each Reads)) (fits .once-each Stores);
         paired = fits .paired;
-        reads-once = once-distinct c (l .reads) (fits .reads-once);
-        cells-once = fits .cells-once;
       }
   readsBy-fits c (suc k) h = fits
 
@@ -50,26 +49,29 @@ module _ (T n : ℕ) (l : Log) (fits : Fits T l) (room : Room n l) (under : n < 
   unfolding withStore once
   store-fits c v h =
       record {
-        reads-in = fits .reads-in;
-        cells-in = once-below c (l .cells) T h (fits .cells-in);
-        reads-few = fits .reads-few;
-        cells-few = omega (arith, once-length c (l .cells));
+        inside = each-kind _ (fits .inside Reads) (once-below c (l .cells) T h (fits .inside Stores));
+        few = each-kind _ (fits .few Reads) (omega (arith, once-length c (l .cells), room .room Stores));
+        once-each = each-kind _ (fits .once-each Reads) (once-distinct c (l .cells) (fits .once-each Stores));
         paired = valuesBy-paired c v (placeIn c (l .cells));
-        reads-once = fits .reads-once;
-        cells-once = once-distinct c (l .cells) (fits .cells-once);
       }
 
 module _ (n : ℕ) (l : Log) (room : Room n l) (c : ℕ) where
   pub read-room : Room (n + 1) (withRead l c)
   unfolding withRead
-  read-room = omega (arith, readsBy-length (placeIn c (l .cells)) c (l .reads))
+  read-room =
+      record {
+        room = each-kind _ (omega (arith, readsBy-length (placeIn c (l .cells)) c (l .reads), room .room Reads)) (omega (arith, room .room Stores));
+      }
 
   pub store-room : (v : ℕ) → Room (n + 1) (withStore l c v)
   unfolding withStore
-  store-room v = omega (arith, once-length c (l .cells))
+  store-room v = record { room = each-kind _ (omega (arith, room .room Reads)) (omega (arith, once-length c (l .cells), room .room Stores)) }
+
+pub empty-room : (n : ℕ) → Room n empty
+empty-room n = record { room = each-kind _ (omega arith) (omega arith) }
 
 pub same-room : (n : ℕ) (l : Log) → Room n l → Room (n + 1) l
-same-room n l room = omega arith
+same-room n l room = record { room = λ k. omega (arith, room .room k) }
 
 -- what was read stays read
 pub read-keeps : (l : Log) (c d : ℕ) → has d (l .reads) ≡ true → has d (withRead l c .reads) ≡ true

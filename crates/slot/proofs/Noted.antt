@@ -16,6 +16,8 @@ use Rattle.slot.specs.States.{waiting}
 use Rattle.slot.specs.Layout.{readCount, storeCount, listWords, firstRead, firstStore, firstValue}
 use Rattle.slot.specs.Log.{Log, placeIn, once, loaded, withRead, withStore, pad, layout, logOf, Holds, Marked}
 use Rattle.slot.proofs.Places.{length-snoc, found, place-bound, place-new, place-other, once-new, once-old}
+use Rattle.slot.specs.declared.ListKind.the-variants.{Stores}
+use Rattle.slot.proofs.ListKinds.{each-kind}
 use Rattle.slot.proofs.Slots.{thirds, Sized, rs-full, cs-full, vs-full}
 
 -- ---- a word of a list, changed
@@ -81,7 +83,7 @@ module _ (l : Log) (z : Sized l) where
   unfolding layout
   change-value v i k h e =
       set-value waiting 0 (length (l .reads)) (length (l .cells)) (pad (l .reads)) (pad (l .cells)) (pad (l .values)) (rs-full l z) i k v (cs-full l z) e
-      (omega (arith, vs-full l z))
+      (omega (arith, vs-full l z, z .few Stores, z .paired))
       ∙ rw (pad-set (l .values) i v h)
 
 -- ---- the slot of a run on its way
@@ -97,7 +99,7 @@ module _ (s : List ℕ) (h : Holds s) where
 
   holds-sized : Sized (logOf s)
   holds-sized =
-      record { reads-few = omega (arith, reads-count, h .read-room); cells-few = omega (arith, cells-count, h .store-room); paired = h .paired }
+      record { few = each-kind _ (omega (arith, reads-count, h .read-room)) (omega (arith, cells-count, h .store-room)); paired = h .paired }
 
   -- the place of a stored cell is no more than 32
   pub place-small : (c : ℕ) → placeIn c (logOf s .cells) ≤ listWords

@@ -9,8 +9,11 @@ use Rattle.base.specs.Words.{has, distinct, words}
 use Rattle.base.proofs.Members.{has-none}
 use Rattle.base.proofs.Parts.{words-between, getD-between}
 use Rattle.slot.specs.States.{waiting}
-use Rattle.slot.specs.Layout.{stateWord, detailWord, readCount, storeCount, listWords, firstRead, firstStore, firstValue, slotWords}
-use Rattle.slot.specs.Log.{Log, empty, pad, layout, logOf, Fits}
+use Rattle.slot.specs.declared.ListKind.{ListKind}
+use Rattle.slot.specs.declared.ListKind.the-variants.{Reads, Stores}
+use Rattle.slot.specs.Layout.{stateWord, detailWord, listWords, firstRead, firstStore, firstValue, countWord, firstWord, slotWords}
+use Rattle.slot.specs.Log.{Log, cellsOf, empty, pad, layout, logOf, Fits}
+use Rattle.slot.proofs.ListKinds.{each-kind}
 
 -- ---- a list in its 32 words
 
@@ -40,19 +43,18 @@ thirds a b n m rs cs vs =
 
 -- the sizes of a log that a slot has room for
 pub record Sized (l : Log) : Type 0 where
-  pub reads-few : length (l .reads) ≤ listWords
-  pub cells-few : length (l .cells) ≤ listWords
+  pub few : (k : ListKind) → length (cellsOf k l) ≤ listWords
   pub paired : length (l .values) ≡ length (l .cells)
 
 module _ (l : Log) (z : Sized l) where
   pub rs-full : length (pad (l .reads)) ≡ listWords
-  rs-full = length-pad (l .reads) (z .reads-few)
+  rs-full = length-pad (l .reads) (z .few Reads)
 
   pub cs-full : length (pad (l .cells)) ≡ listWords
-  cs-full = length-pad (l .cells) (z .cells-few)
+  cs-full = length-pad (l .cells) (z .few Stores)
 
   pub vs-full : length (pad (l .values)) ≡ listWords
-  vs-full = length-pad (l .values) (omega arith)
+  vs-full = length-pad (l .values) (omega (arith, z .few Stores, z .paired))
 
   before-values : length (pad (l .reads) ++ pad (l .cells)) ≡ listWords + listWords
   before-values = omega (arith, length-append (pad (l .reads)) (pad (l .cells)), rs-full, cs-full)
@@ -91,23 +93,23 @@ module _ (l : Log) (z : Sized l) where
       let n : ℕ = length (l .reads) in
       let m : ℕ = length (l .cells) in
       let e₁ : words firstRead n (layout a b l) ≡ l .reads =
-      words-between (a ∷ b ∷ n ∷ m ∷ []) (pad (l .reads)) (pad (l .cells) ++ pad (l .values)) firstRead n refl (omega (arith, rs-full, z .reads-few))
+      words-between (a ∷ b ∷ n ∷ m ∷ []) (pad (l .reads)) (pad (l .cells) ++ pad (l .values)) firstRead n refl (omega (arith, rs-full, z .few Reads))
       ∙ pad-take (l .reads) n refl in
       let e₂ : words firstStore m (layout a b l) ≡ l .cells =
       words-between (a ∷ b ∷ n ∷ m ∷ pad (l .reads)) (pad (l .cells)) (pad (l .values)) firstStore m (omega (arith, rs-full))
-      (omega (arith, cs-full, z .cells-few))
+      (omega (arith, cs-full, z .few Stores))
       ∙ pad-take (l .cells) m refl in
       let e₃ : words firstValue m (layout a b l) ≡ l .values =
       ap (words firstValue m) (thirds a b n m (pad (l .reads)) (pad (l .cells)) (pad (l .values)))
       ∙ (words-between (a ∷ b ∷ n ∷ m ∷ (pad (l .reads) ++ pad (l .cells))) (pad (l .values)) [] firstValue m (omega (arith, before-values))
-      (omega (arith, vs-full, z .cells-few))
+      (omega (arith, vs-full, z .few Stores))
       ∙ pad-take (l .values) m (z .paired)) in
       λ i. record { reads = e₁ i; cells = e₂ i; values = e₃ i }
 
 -- ---- for everyone above: the slot that holds a log which fits
 
 sized : (T : ℕ) (l : Log) → Fits T l → Sized l
-sized T l f = record { reads-few = f .reads-few; cells-few = f .cells-few; paired = f .paired }
+sized T l f = record { few = f .few; paired = f .paired }
 
 module _ (state detail : ℕ) (l : Log) (T : ℕ) (fits : Fits T l) where
   pub layout-length : length (layout state detail l) ≡ slotWords
@@ -127,6 +129,9 @@ module _ (state detail : ℕ) (l : Log) (T : ℕ) (fits : Fits T l) where
   pub layout-value : (i : ℕ) → i < listWords → getD (layout state detail l) (firstValue + i) 0 ≡ getD (l .values) i 0
   layout-value i h = value-word l (sized T l fits) state detail i h
 
+  pub layout-list : (k : ListKind) (i : ℕ) → i < listWords → getD (layout state detail l) (firstWord k + i) 0 ≡ getD (cellsOf k l) i 0
+  layout-list = each-kind _ layout-read layout-cell
+
 -- the first four words, of any log
 module _ (state detail : ℕ) (l : Log) where
   pub layout-state : getD (layout state detail l) stateWord 0 ≡ state
@@ -137,13 +142,9 @@ module _ (state detail : ℕ) (l : Log) where
   unfolding layout
   layout-detail = refl
 
-  pub layout-read-count : getD (layout state detail l) readCount 0 ≡ length (l .reads)
+  pub layout-count : (k : ListKind) → getD (layout state detail l) (countWord k) 0 ≡ length (cellsOf k l)
   unfolding layout
-  layout-read-count = refl
-
-  pub layout-store-count : getD (layout state detail l) storeCount 0 ≡ length (l .cells)
-  unfolding layout
-  layout-store-count = refl
+  layout-count = each-kind _ refl refl
 
   -- a slot whose state and detail are changed holds the same log
   pub layout-again : (state′ detail′ : ℕ) → set (set (layout state detail l) stateWord state′) detailWord detail′ ≡ layout state′ detail′ l
@@ -155,13 +156,10 @@ pub empty-fits : (T : ℕ) → Fits T empty
 unfolding has distinct
 empty-fits T =
     record {
-      reads-in = λ c h. absurd (has-none c h);
-      cells-in = λ c h. absurd (has-none c h);
-      reads-few = omega arith;
-      cells-few = omega arith;
+      inside = each-kind _ (λ c h. absurd (has-none c h)) (λ c h. absurd (has-none c h));
+      few = each-kind _ (omega arith) (omega arith);
+      once-each = each-kind _ refl refl;
       paired = refl;
-      reads-once = refl;
-      cells-once = refl;
     }
 
 -- a waiting program's slot is all 0

@@ -7,8 +7,12 @@ use lib.Seq.{ext-getD}
 use denote.Ref.{now}
 use Rattle.base.proofs.Unique.{Unique}
 use Rattle.slot.specs.Log.{Marked}
-use Rattle.slot.proofs.is_end.Kinds as is-end-kinds
-use Rattle.slot.proofs.is_end.Reads as is-end
+use Rattle.slot.proofs.is_in.Kinds as is-in-kinds
+use Rattle.slot.proofs.is_in.Reads as is-in
+use Rattle.slot.proofs.count_word.Kinds as count-word-kinds
+use Rattle.slot.proofs.count_word.Reads as count-word
+use Rattle.slot.proofs.first_word.Kinds as first-word-kinds
+use Rattle.slot.proofs.first_word.Reads as first-word
 use Rattle.slot.proofs.clear.Kinds as clear-kinds
 use Rattle.slot.proofs.clear.Reads as clear
 use Rattle.slot.proofs.stored_place.Kinds as stored-place-kinds
@@ -18,8 +22,14 @@ use Rattle.slot.proofs.note_store.Reads as note-store
 use Rattle.slot.proofs.note_read.Kinds as note-read-kinds
 use Rattle.slot.proofs.note_read.Reads as note-read
 
-pub is-end-unique : Unique 0 is-end-kinds.ps is-end-kinds.r (λ κs x s. x) is-end.Post
-is-end-unique κs a x y s t p q = p ∙ sym q
+pub is-in-unique : Unique 0 is-in-kinds.ps is-in-kinds.r (λ κs x s. x) is-in.Post
+is-in-unique κs a x y s t p q = p ∙ sym q
+
+pub count-word-unique : Unique 0 count-word-kinds.ps count-word-kinds.r (λ κs x s. x) count-word.Post
+count-word-unique κs a x y s t p q = p ∙ sym q
+
+pub first-word-unique : Unique 0 first-word-kinds.ps first-word-kinds.r (λ κs x s. x) first-word.Post
+first-word-unique κs a x y s t p q = p ∙ sym q
 
 pub clear-unique : Unique {A = List ℕ} 1 clear-kinds.ps clear-kinds.r (λ κs x s. now (s .0)) clear.Post
 clear-unique κs a x y s t p q = p ∙ sym q

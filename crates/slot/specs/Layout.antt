@@ -2,6 +2,8 @@
 -- stored values". Assumes nothing.
 use Prim.Native.Nat.{ℕ, _+_}
 use Rattle.image.specs.Limits.{maxInstructions}
+use Rattle.slot.specs.declared.ListKind.{ListKind}
+use Rattle.slot.specs.declared.ListKind.the-variants.{Reads, Stores}
 
 abbrev pub stateWord : ℕ
 stateWord = 0
@@ -27,6 +29,15 @@ firstStore = firstRead + listWords
 
 abbrev pub firstValue : ℕ
 firstValue = firstStore + listWords
+
+-- of each kind of list that names cells: where its count stands, and where its first cell
+abbrev pub countWord : ListKind → ℕ
+countWord Reads = readCount
+countWord Stores = storeCount
+
+abbrev pub firstWord : ListKind → ℕ
+firstWord Reads = firstRead
+firstWord Stores = firstStore
 
 -- 100 words in all
 abbrev pub slotWords : ℕ

@@ -7,6 +7,8 @@ use lib.ListN.{length, getD, set, replicate}
 use lib.Dec.{eqb}
 use Rattle.base.specs.Words.{has, distinct, words}
 use Rattle.image.specs.Limits.{maxCells}
+use Rattle.slot.specs.declared.ListKind.{ListKind}
+use Rattle.slot.specs.declared.ListKind.the-variants.{Reads, Stores}
 use Rattle.slot.specs.States.{waiting}
 use Rattle.slot.specs.Layout.{readCount, storeCount, listWords, firstRead, firstStore, firstValue, slotWords}
 
@@ -15,6 +17,11 @@ pub record Log : Type 0 where
   pub reads : List ℕ
   pub cells : List ℕ
   pub values : List ℕ
+
+-- its cells of one kind
+abbrev pub cellsOf : ListKind → Log → List ℕ
+cellsOf Reads l = l .reads
+cellsOf Stores l = l .cells
 
 abbrev pub empty : Log
 empty = record { reads = []; cells = []; values = [] }
@@ -80,13 +87,10 @@ logOf s =
 -- What a slot has room for: the log of a run on a table of T cells. Each list is no longer than its place in the slot, no cell stands twice, and
 -- each stored cell has a value.
 pub record Fits (T : ℕ) (l : Log) : Type 0 where
-  pub reads-in : (c : ℕ) → has c (l .reads) ≡ true → c < T
-  pub cells-in : (c : ℕ) → has c (l .cells) ≡ true → c < T
-  pub reads-few : length (l .reads) ≤ listWords
-  pub cells-few : length (l .cells) ≤ listWords
+  pub inside : (k : ListKind) (c : ℕ) → has c (cellsOf k l) ≡ true → c < T
+  pub few : (k : ListKind) → length (cellsOf k l) ≤ listWords
+  pub once-each : (k : ListKind) → distinct (cellsOf k l) ≡ true
   pub paired : length (l .values) ≡ length (l .cells)
-  pub reads-once : distinct (l .reads) ≡ true
-  pub cells-once : distinct (l .cells) ≡ true
 
 -- A waiting slot that holds the log of a run on its way, with room for one more.
 pub record Holds (s : List ℕ) : Type 0 where

@@ -4,8 +4,8 @@ ghost use Prim.Native.Nat.{_+_, _<_, _≤_};
 ghost use lib.ListN.{length, replicate};
 ghost use Rattle.base.specs.Words.{words};
 ghost use Rattle.image.specs.Limits.{maxCells};
-ghost use Rattle.slot.specs.States.{waiting, isEnd};
-ghost use Rattle.slot.specs.Layout.{listWords};
+ghost use Rattle.slot.specs.States.{waiting, isIn};
+ghost use Rattle.slot.specs.Layout.{countWord, firstWord, listWords};
 ghost use Rattle.slot.specs.Log.{placeIn, layout, logOf, withRead, withStore, Holds, Marked};
 
 // Where the words of a slot lie: named here and nowhere else.
@@ -41,14 +41,52 @@ pub const COMMITTED: u32 = 4;
 
 pub const CARRIED: u32 = 5;
 
-// Whether a state is one in which a program is done with in this batch.
-pub fn is_end(state: u32) -> bool
-    ensures { λ r. ⌜ r ≡ isEnd state ⌝ }
+// In the states from this one on a program is done with in this batch.
+pub const FIRST_END: u32 = REJECTED;
+
+// Check 7 refuses a state over this one.
+pub const LAST_STATE: u32 = CARRIED;
+
+// The programs that the listed order names, and those that the next image has.
+pub enum Group {
+    Committed,
+    Carried,
+}
+
+// Whether a state is one of a group's.
+pub fn is_in(group: Group, state: u32) -> bool
+    ensures { λ r. ⌜ r ≡ isIn group state ⌝ }
 {
-    if state == WAITING {
-        return false;
+    match group {
+        Group::Committed => state == COMMITTED,
+        Group::Carried => state == CARRIED,
     }
-    state != GATHERED
+}
+
+// The lists of a slot that name cells.
+pub enum ListKind {
+    Reads,
+    Stores,
+}
+
+// Where a list's count stands.
+pub fn count_word(list: ListKind) -> usize
+    ensures { λ r. ⌜ r ≡ countWord list ⌝ }
+{
+    match list {
+        ListKind::Reads => READ_COUNT,
+        ListKind::Stores => STORE_COUNT,
+    }
+}
+
+// Where its first cell stands.
+pub fn first_word(list: ListKind) -> usize
+    ensures { λ r. ⌜ r ≡ firstWord list ⌝ }
+{
+    match list {
+        ListKind::Reads => READS,
+        ListKind::Stores => STORES,
+    }
 }
 
 // Every word is 0.
