@@ -1,5 +1,4 @@
--- What each change of the area does to the write marks, the read marks and the slots: what was put there is read back, the rest stays.
--- Assumes nothing.
+-- What each change of the area does to the marks and the slots: what was put there is read back, the rest stays. Assumes nothing.
 use Prim.Native.Nat.{ℕ, _+_, _-_, _≤_, _<_}
 use mathlib.Core.Path.{_≡_, refl, sym, ap, _∙_}
 use mathlib.Core.Logic.{_⊎_, inl, inr}
@@ -13,8 +12,11 @@ use Rattle.base.specs.Words.{has, words}
 use Rattle.base.proofs.Members.{has-head, has-tail}
 use Rattle.base.proofs.Parts.{words-at, words-same, words-set-in, words-set-out, words-between}
 use Rattle.slot.specs.Layout.{stateWord, detailWord, slotWords}
-use Rattle.area.specs.Layout.{areaWords, writeMarks, readMarks, slotStart, stateAt, detailAt, stateOf, detailOf, slotAt, withSlot, withState}
+use Rattle.area.specs.declared.MarkKind.{MarkKind}
+use Rattle.area.specs.declared.MarkKind.the-variants.{Write, Read}
+use Rattle.area.specs.Layout.{areaWords, marksAt, slotStart, stateAt, detailAt, stateOf, detailOf, slotAt, withSlot, withState}
 use Rattle.area.specs.Marks.{markOf, lower, reserve}
+use Rattle.area.proofs.Views.{marks-low}
 
 -- two slots do not overlap
 pub slots-apart : (T j k : ℕ) → (j ≡ k → ⊥) → (slotStart T j + slotWords ≤ slotStart T k) ⊎ (slotStart T k + slotWords ≤ slotStart T j)
@@ -69,11 +71,8 @@ module _ (T n k : ℕ) (s a : List ℕ) (full : length s ≡ slotWords) (sized :
   unfolding slotAt
   slot-other j h q = slot-elsewhere (slotStart T j) slotWords (omega arith) (slots-apart T j k q)
 
-  pub slot-write-marks : words (writeMarks T) T (withSlot T k s a) ≡ words (writeMarks T) T a
-  slot-write-marks = slot-elsewhere (writeMarks T) T (omega arith) (inl (omega arith))
-
-  pub slot-read-marks : words (readMarks T) T (withSlot T k s a) ≡ words (readMarks T) T a
-  slot-read-marks = slot-elsewhere (readMarks T) T (omega arith) (inl (omega arith))
+  pub slot-marks : (m : MarkKind) → words (marksAt m T) T (withSlot T k s a) ≡ words (marksAt m T) T a
+  slot-marks m = slot-elsewhere (marksAt m T) T (omega (arith, marks-low T m)) (inl (omega (arith, marks-low T m)))
 
 -- ---- a state and a detail
 
@@ -115,11 +114,8 @@ module _ (T k state detail : ℕ) (a : List ℕ) where
   unfolding slotAt
   state-other j q = state-elsewhere (slotStart T j) slotWords (slots-apart T j k q)
 
-  pub state-write-marks : words (writeMarks T) T (withState T k state detail a) ≡ words (writeMarks T) T a
-  state-write-marks = state-elsewhere (writeMarks T) T (inl (omega arith))
-
-  pub state-read-marks : words (readMarks T) T (withState T k state detail a) ≡ words (readMarks T) T a
-  state-read-marks = state-elsewhere (readMarks T) T (inl (omega arith))
+  pub state-marks : (m : MarkKind) → words (marksAt m T) T (withState T k state detail a) ≡ words (marksAt m T) T a
+  state-marks m = state-elsewhere (marksAt m T) T (inl (omega (arith, marks-low T m)))
 
 -- ---- reservations
 
@@ -129,7 +125,7 @@ reserve-length at k [] a = refl
 reserve-length at k (c ∷ cs) a = reserve-length at k cs _ ∙ length-set a (at + c) _
 
 -- in the marks that they are made in, which begin at the place
-pub reserve-inside : (at T k : ℕ) (cs a : List ℕ) → ((c : ℕ) → has c cs ≡ true → c < T)
+reserve-inside : (at T k : ℕ) (cs a : List ℕ) → ((c : ℕ) → has c cs ≡ true → c < T)
     → words at T (reserve at cs k a) ≡ reserve 0 cs k (words at T a)
 unfolding reserve
 reserve-inside at T k [] a f = refl
@@ -157,22 +153,16 @@ reserve-outside at T k p m (c ∷ cs) a f out =
     go l (inr q) = inr (omega arith)
 
 module _ (T k : ℕ) (cs a : List ℕ) (f : (c : ℕ) → has c cs ≡ true → c < T) where
-  pub writes-own : words (writeMarks T) T (reserve (writeMarks T) cs k a) ≡ reserve 0 cs k (words (writeMarks T) T a)
-  writes-own = reserve-inside (writeMarks T) T k cs a f
+  pub reserve-own : (m : MarkKind) → words (marksAt m T) T (reserve (marksAt m T) cs k a) ≡ reserve 0 cs k (words (marksAt m T) T a)
+  reserve-own m = reserve-inside (marksAt m T) T k cs a f
 
-  pub writes-read-marks : words (readMarks T) T (reserve (writeMarks T) cs k a) ≡ words (readMarks T) T a
-  writes-read-marks = reserve-outside (writeMarks T) T k (readMarks T) T cs a f (inl (omega arith))
+  -- the marks of another kind, and every slot
+  pub reserve-read-marks : words (marksAt Read T) T (reserve (marksAt Write T) cs k a) ≡ words (marksAt Read T) T a
+  reserve-read-marks = reserve-outside (marksAt Write T) T k (marksAt Read T) T cs a f (inl (omega arith))
 
-  pub writes-slot : (j : ℕ) → slotAt T j (reserve (writeMarks T) cs k a) ≡ slotAt T j a
+  pub reserve-write-marks : words (marksAt Write T) T (reserve (marksAt Read T) cs k a) ≡ words (marksAt Write T) T a
+  reserve-write-marks = reserve-outside (marksAt Read T) T k (marksAt Write T) T cs a f (inr (omega arith))
+
+  pub reserve-slot : (m : MarkKind) (j : ℕ) → slotAt T j (reserve (marksAt m T) cs k a) ≡ slotAt T j a
   unfolding slotAt
-  writes-slot j = reserve-outside (writeMarks T) T k (slotStart T j) slotWords cs a f (inl (omega arith))
-
-  pub reads-own : words (readMarks T) T (reserve (readMarks T) cs k a) ≡ reserve 0 cs k (words (readMarks T) T a)
-  reads-own = reserve-inside (readMarks T) T k cs a f
-
-  pub reads-write-marks : words (writeMarks T) T (reserve (readMarks T) cs k a) ≡ words (writeMarks T) T a
-  reads-write-marks = reserve-outside (readMarks T) T k (writeMarks T) T cs a f (inr (omega arith))
-
-  pub reads-slot : (j : ℕ) → slotAt T j (reserve (readMarks T) cs k a) ≡ slotAt T j a
-  unfolding slotAt
-  reads-slot j = reserve-outside (readMarks T) T k (slotStart T j) slotWords cs a f (inl (omega arith))
+  reserve-slot m j = reserve-outside (marksAt m T) T k (slotStart T j) slotWords cs a f (inl (omega (arith, marks-low T m)))

@@ -1,277 +1,217 @@
--- Checks 1 to 7: which refusal each finding earns, and what an area that passes has, in plain facts. Assumes nothing.
+-- Checks 1 to 7: what an area that passes has, in plain facts. Assumes nothing.
 use Prim.Native.Nat.{ℕ, _+_, _≤_, _<_}
-use mathlib.Core.Path.{_≡_, refl, _∙_}
-use mathlib.Core.Bool.{Bool, true, false, cond, _&&_, false≢true}
+use mathlib.Core.Path.{_≡_, refl, sym, _∙_}
+use mathlib.Core.Bool.{Bool, true, _&&_}
 use mathlib.Core.List.{List}
 use native.Mathlib.Omega.{arith}
 use lib.ListN.{length, getD}
 use lib.Dec.{ltb, leb}
-use borrow.Author.Tests.{lt-ltb, le-leb, lt-leb, eq-eqb, ne-eqb, ltb-true, leb-true, eqb-true}
+use borrow.Author.Tests.{lt-ltb, le-leb, eq-eqb, ltb-true, leb-true, eqb-true}
 use Rattle.base.specs.Words.{has}
-use Rattle.base.proofs.Bools.{and-left, and-right, both-and, and-false}
-use Rattle.base.proofs.Calls.{unless-refused, unless-none}
+use Rattle.base.proofs.Bools.{and-both, both-and}
 use Rattle.base.proofs.Numbers.{every-at, every-from}
+use Rattle.base.proofs.Members.{has-getD}
 use Rattle.base.proofs.Parts.{words-has}
 use Rattle.image.specs.Limits.{maxPrograms, minCells, maxCells}
-use Rattle.image.specs.Refusals.{badTable, badAreaSize, badArea}
+use Rattle.image.specs.Refusals as refusal
 use Rattle.image.specs.Image.{countOf, refusalOf}
 use Rattle.image.proofs.Laws.{accepted, few-programs}
+use Rattle.image.proofs.Refusing.{goes-on, none-fails, none-after, first-passes, number-of}
+use Rattle.slot.specs.declared.ListKind.{ListKind}
+use Rattle.slot.specs.declared.ListKind.the-variants.{Reads, Stores}
 use Rattle.slot.specs.States.{lastState}
-use Rattle.slot.specs.Layout.{stateWord, readCount, storeCount, listWords, firstRead, firstStore, slotWords}
-use Rattle.area.specs.Layout.{areaWords, writeMarks, readMarks, slotStart, stateAt, readCountAt, storeCountAt, readsAt, storesAt}
-use Rattle.area.specs.Layout.{slotAt, readsOf, storesOf}
-use Rattle.area.specs.Checks.{tableGood, sizeIs, marksGood, cellsGood, stateGood, readCountGood, storeCountGood, slotGood, slotsGood}
-use Rattle.area.specs.Checks.{wordsGood, roomRefusal, areaRefusal, openRefusal, callRefusal, Checked, Slotted}
-use Rattle.area.proofs.Views.{slot-word}
-
--- ---- checks 5 and 6
-
-module _ (n : ℕ) (t a : List ℕ) where
-  pub room-none : length t < minCells → roomRefusal n t a ≡ badTable
-  unfolding roomRefusal tableGood
-  room-none h = rw (lt-leb minCells (length t) h)
-
-  pub room-many : maxCells < length t → roomRefusal n t a ≡ badTable
-  unfolding roomRefusal tableGood
-  room-many h = rw (and-false (leb minCells (length t)) (leb (length t) maxCells) (lt-leb (length t) maxCells h))
-
-  room-table : minCells ≤ length t → length t ≤ maxCells → tableGood t ≡ true
-  unfolding tableGood
-  room-table g h = both-and (le-leb minCells (length t) g) (le-leb (length t) maxCells h)
-
-  pub room-other : minCells ≤ length t → length t ≤ maxCells → (length a ≡ areaWords (length t) n → ⊥) → roomRefusal n t a ≡ badAreaSize
-  unfolding roomRefusal sizeIs
-  room-other g h e = rw (room-table g h, ne-eqb (length a) (areaWords (length t) n) e)
-
-  pub room-right : minCells ≤ length t → length t ≤ maxCells → length a ≡ areaWords (length t) n → roomRefusal n t a ≡ 0
-  unfolding roomRefusal sizeIs
-  room-right g h e = rw (room-table g h, eq-eqb (length a) (areaWords (length t) n) e)
-
-  both-passed : (b s : Bool) → cond {A = ℕ} b (cond s 0 badAreaSize) badTable ≡ 0 → (b ≡ true) × (s ≡ true)
-  both-passed true true e = (refl, refl)
-  both-passed true false e = absurd (omega arith)
-  both-passed false s e = absurd (omega arith)
-
-  pub room-shows : roomRefusal n t a ≡ 0 → (0 < length t) × (length t ≤ maxCells) × (length a ≡ areaWords (length t) n)
-  unfolding roomRefusal tableGood sizeIs
-  room-shows e =
-      let w = both-passed (tableGood t) (sizeIs (length t) n a) e in (
-        leb-true _ _ (and-left (leb minCells (length t)) (leb (length t) maxCells) (w .0)),
-        leb-true _ _ (and-right (leb minCells (length t)) (leb (length t) maxCells) (w .0)),
-        eqb-true _ _ (w .1),
-      )
-
-  -- and check 7 after them
-  pub area-room : (roomRefusal n t a ≡ 0 → ⊥) → areaRefusal n t a ≡ roomRefusal n t a
-  unfolding areaRefusal
-  area-room h = unless-refused (roomRefusal n t a) (λ r. r) (cond (wordsGood (length t) n a) 0 badArea) h
-
-  pub area-bad : roomRefusal n t a ≡ 0 → wordsGood (length t) n a ≡ false → areaRefusal n t a ≡ badArea
-  unfolding areaRefusal
-  area-bad e h = rw (e, h)
-
-  pub area-right : roomRefusal n t a ≡ 0 → wordsGood (length t) n a ≡ true → areaRefusal n t a ≡ 0
-  unfolding areaRefusal
-  area-right e h = rw (e, h)
-
-  passed-seven : (b : Bool) → cond {A = ℕ} b 0 badArea ≡ 0 → b ≡ true
-  passed-seven true e = refl
-  passed-seven false e = absurd (omega arith)
-
-  pub area-shows : areaRefusal n t a ≡ 0 → (roomRefusal n t a ≡ 0) × (wordsGood (length t) n a ≡ true)
-  unfolding areaRefusal
-  area-shows e =
-      let w = unless-none (roomRefusal n t a) (cond (wordsGood (length t) n a) 0 badArea) e in
-      (w .0, passed-seven (wordsGood (length t) n a) (w .1))
+use Rattle.slot.specs.Layout.{stateWord, listWords, countWord, firstWord, slotWords}
+use Rattle.slot.specs.Log.{Log, cellsOf, layout, Fits}
+use Rattle.slot.proofs.ListKinds.{each-kind, count-low, list-lies}
+use Rattle.slot.proofs.Slots.{layout-state, layout-count, layout-list}
+use Rattle.area.specs.declared.MarkKind.{MarkKind}
+use Rattle.area.specs.declared.MarkKind.the-variants.{Write, Read}
+use Rattle.area.specs.Layout.{areaWords, marksAt, slotStart, stateOf, countAt, listAt, slotAt, listOf}
+use Rattle.area.specs.Checks.{tableGood, sizeIs, allBelow, marksGood, stateGood, listGood, slotGood, slotsGood, wordsGood}
+use Rattle.area.specs.Checks.{roomRefusal, openRefusal, callRefusal, Checked, Measured, Lies, Slotted}
+use Rattle.area.proofs.Views.{each-mark, slot-word, state-in-slot, count-in-slot}
 
 -- ---- checks 1 to 6, and 1 to 7
 
-pub few : (image : List ℕ) → refusalOf image ≡ 0 → countOf image ≤ maxPrograms
+pub few : (image : List ℕ) → refusalOf image .number ≡ 0 → countOf image ≤ maxPrograms
 few image e = few-programs image (accepted image e .header)
 
+-- what 5 and 6 show of table and area, after 1 to 4
+pub record Room (image t a : List ℕ) : Type 0 where
+  pub accepted : refusalOf image .number ≡ 0
+  pub cells-some : 0 < length t
+  pub cells-few : length t ≤ maxCells
+  pub sized : length a ≡ areaWords (length t) (countOf image)
+
 module _ (image t a : List ℕ) where
-  pub open-image : (refusalOf image ≡ 0 → ⊥) → openRefusal image t a ≡ refusalOf image
-  unfolding openRefusal
-  open-image h = unless-refused (refusalOf image) (λ r. r) (roomRefusal (countOf image) t a) h
-
-  pub open-room : refusalOf image ≡ 0 → openRefusal image t a ≡ roomRefusal (countOf image) t a
-  unfolding openRefusal
-  open-room e = rw e
-
-  pub open-shows : openRefusal image t a ≡ 0 → (refusalOf image ≡ 0) × (roomRefusal (countOf image) t a ≡ 0)
-  unfolding openRefusal
-  open-shows e = unless-none (refusalOf image) (roomRefusal (countOf image) t a) e
-
-  pub call-image : (refusalOf image ≡ 0 → ⊥) → callRefusal image t a ≡ refusalOf image
-  unfolding callRefusal
-  call-image h = unless-refused (refusalOf image) (λ r. r) (areaRefusal (countOf image) t a) h
-
-  pub call-area : refusalOf image ≡ 0 → callRefusal image t a ≡ areaRefusal (countOf image) t a
-  unfolding callRefusal
-  call-area e = rw e
+  pub open-shows : openRefusal image t a .number ≡ 0 → Room image t a
+  unfolding openRefusal roomRefusal tableGood sizeIs
+  open-shows e =
+      let w = none-after (refusalOf image) _ e in
+      let s = none-fails (tableGood t) refusal.tableSize _ (λ z. omega arith) (w .1) in
+      let z = none-fails (sizeIs (length t) (countOf image) a) refusal.areaSize _ (λ z. omega arith) (s .1) in
+      let c = and-both (leb minCells (length t)) (leb (length t) maxCells) (s .0) in
+      record { accepted = w .0; cells-some = leb-true _ _ (c .0); cells-few = leb-true _ _ (c .1); sized = eqb-true _ _ (z .0) }
 
   -- no refusal is exactly what `Checked` says
-  pub checked : callRefusal image t a ≡ 0 → Checked image t a
+  pub checked : callRefusal image t a .number ≡ 0 → Checked image t a
   unfolding callRefusal
   checked e =
-      let w = unless-none (refusalOf image) (areaRefusal (countOf image) t a) e in
-      let s = area-shows (countOf image) t a (w .1) in
-      let m = room-shows (countOf image) t a (s .0) in
-      record { accepted = w .0; programs = few image (w .0); cells-some = m .0; cells-few = m .1; sized = m .2; good = s .1 }
+      let w = none-after (openRefusal image t a) _ e in
+      let g = none-fails (wordsGood (length t) (countOf image) a) refusal.area _ (λ z. omega arith) (w .1) in
+      let r = open-shows (w .0) in
+      record {
+        accepted = r .accepted;
+        programs = few image (r .accepted);
+        cells-some = r .cells-some;
+        cells-few = r .cells-few;
+        sized = r .sized;
+        good = g .0;
+      }
 
-  pub checked-is : Checked image t a → callRefusal image t a ≡ 0
-  checked-is c =
-      call-area (c .accepted)
-      ∙ area-right (countOf image) t a (room-right (countOf image) t a (c .cells-some) (c .cells-few) (c .sized)) (c .good)
+  open-is : Checked image t a → openRefusal image t a .number ≡ 0
+  unfolding openRefusal roomRefusal tableGood sizeIs
+  open-is c =
+      number-of (sym (first-passes refl (c .accepted)
+      (goes-on _ (both-and (le-leb minCells (length t) (c .cells-some)) (le-leb (length t) maxCells (c .cells-few)))
+      (goes-on _ (eq-eqb (length a) (areaWords (length t) (countOf image)) (c .sized)) refl))))
+
+  pub checked-is : Checked image t a → callRefusal image t a .number ≡ 0
+  unfolding callRefusal
+  checked-is c = number-of (sym (first-passes refl (open-is c) (goes-on _ (c .good) refl)))
 
 -- ---- check 7, in plain facts
 
 -- What it asks of the words of a slot.
 pub record SlotPassed (T : ℕ) (s : List ℕ) : Type 0 where
   pub state-few : getD s stateWord 0 ≤ lastState
-  pub reads-few : getD s readCount 0 ≤ listWords
-  pub stores-few : getD s storeCount 0 ≤ listWords
-  pub reads-in : (i : ℕ) → i < getD s readCount 0 → getD s (firstRead + i) 0 < T
-  pub stores-in : (i : ℕ) → i < getD s storeCount 0 → getD s (firstStore + i) 0 < T
+  pub few-cells : (l : ListKind) → getD s (countWord l) 0 ≤ listWords
+  pub cells-in : (l : ListKind) (i : ℕ) → i < getD s (countWord l) 0 → getD s (firstWord l + i) 0 < T
 
 -- What it asks of the area: of every mark, and of every slot.
 pub record Passed (T n : ℕ) (a : List ℕ) : Type 0 where
-  pub write-marks : (c : ℕ) → c < T → getD a (writeMarks T + c) 0 ≤ n
-  pub read-marks : (c : ℕ) → c < T → getD a (readMarks T + c) 0 ≤ n
+  pub marks : (m : MarkKind) (c : ℕ) → c < T → getD a (marksAt m T + c) 0 ≤ n
   pub slots : (k : ℕ) → k < n → SlotPassed T (slotAt T k a)
 
-five : (x y z u v : Bool) → cond x (cond y (cond z (cond u v false) false) false) false ≡ true
-    → (x ≡ true) × (y ≡ true) × (z ≡ true) × (u ≡ true) × (v ≡ true)
-five true true true true v e = (refl, refl, refl, refl, e)
-five true true true false v e = absurd (false≢true e)
-five true true false u v e = absurd (false≢true e)
-five true false z u v e = absurd (false≢true e)
-five false y z u v e = absurd (false≢true e)
+module _ (bound at count : ℕ) (a : List ℕ) where
+  below-at : allBelow bound at count a ≡ true → (i : ℕ) → i < count → getD a (at + i) 0 < bound
+  unfolding allBelow
+  below-at e i h = ltb-true _ _ (every-at count (λ q. ltb (getD a (at + q) 0) bound) e i h)
 
-module _ (T at count : ℕ) (a : List ℕ) where
-  cells-in : cellsGood T at count a ≡ true → (i : ℕ) → i < count → getD a (at + i) 0 < T
-  unfolding cellsGood
-  cells-in e i h = ltb-true _ _ (every-at count (λ q. ltb (getD a (at + q) 0) T) e i h)
-
-  in-cells : ((i : ℕ) → i < count → getD a (at + i) 0 < T) → cellsGood T at count a ≡ true
-  unfolding cellsGood
-  in-cells h = every-from count (λ i. ltb (getD a (at + i) 0) T) (λ i l. lt-ltb _ _ (h i l))
+  at-below : ((i : ℕ) → i < count → getD a (at + i) 0 < bound) → allBelow bound at count a ≡ true
+  unfolding allBelow
+  at-below h = every-from count (λ i. ltb (getD a (at + i) 0) bound) (λ i l. lt-ltb _ _ (h i l))
 
 module _ (T k : ℕ) (a : List ℕ) where
-  -- the words of the slot, where they lie in the area
-  state-word : getD (slotAt T k a) stateWord 0 ≡ getD a (stateAt T k) 0
-  state-word = let e : slotStart T k + stateWord ≡ stateAt T k = omega arith in rw e at (slot-word T k a stateWord (omega arith))
+  -- the words of a list of the slot, where they lie in the area
+  list-word : (l : ListKind) (i : ℕ) → i < listWords → getD (slotAt T k a) (firstWord l + i) 0 ≡ getD a (listAt l T k + i) 0
+  list-word l i h =
+      let e : slotStart T k + (firstWord l + i) ≡ listAt l T k + i = omega arith in
+      rw e at (slot-word T k a (firstWord l + i) (omega (arith, list-lies l .1)))
 
-  reads-word : getD (slotAt T k a) readCount 0 ≡ getD a (readCountAt T k) 0
-  reads-word = slot-word T k a readCount (omega arith)
+  good-count : (l : ListKind) → listGood l T k a ≡ true → getD a (countAt l T k) 0 ≤ listWords
+  unfolding listGood
+  good-count l g = leb-true _ _ (and-both (leb (getD a (countAt l T k) 0) listWords) _ g .0)
 
-  stores-word : getD (slotAt T k a) storeCount 0 ≡ getD a (storeCountAt T k) 0
-  stores-word = slot-word T k a storeCount (omega arith)
-
-  list-word : (at i : ℕ) → at + i < slotWords → getD (slotAt T k a) (at + i) 0 ≡ getD a (slotStart T k + at + i) 0
-  list-word at i h = let e : slotStart T k + (at + i) ≡ slotStart T k + at + i = omega arith in rw e at (slot-word T k a (at + i) h)
+  good-cells : (l : ListKind) → listGood l T k a ≡ true → (i : ℕ) → i < getD a (countAt l T k) 0 → getD a (listAt l T k + i) 0 < T
+  unfolding listGood
+  good-cells l g = below-at T (listAt l T k) (getD a (countAt l T k) 0) a (and-both (leb (getD a (countAt l T k) 0) listWords) _ g .1)
 
   slot-passed : slotGood T k a ≡ true → SlotPassed T (slotAt T k a)
   unfolding slotGood
   slot-passed e =
-      let w =
-      five (stateGood T k a) (readCountGood T k a) (storeCountGood T k a)
-      (cellsGood T (readsAt T k) (getD a (readCountAt T k) 0) a) (cellsGood T (storesAt T k) (getD a (storeCountAt T k) 0) a) e in
-      let r = leb-true (getD a (readCountAt T k) 0) listWords (w .1) in
-      let s = leb-true (getD a (storeCountAt T k) 0) listWords (w .2) in
+      let w = and-both (stateGood T k a && listGood Reads T k a) (listGood Stores T k a) e in
+      let v = and-both (stateGood T k a) (listGood Reads T k a) (w .0) in
+      let good : (l : ListKind) → listGood l T k a ≡ true = each-kind (λ l. listGood l T k a ≡ true) (v .1) (w .1) in
       record {
-        state-few = rw state-word (leb-true _ _ (w .0));
-        reads-few = rw reads-word r;
-        stores-few = rw stores-word s;
-        reads-in = λ i h.
-            let l : i < getD a (readCountAt T k) 0 = omega (arith, reads-word) in
-            rw (list-word firstRead i (omega arith)) (cells-in T (readsAt T k) (getD a (readCountAt T k) 0) a (w .3) i l);
-        stores-in = λ i h.
-            let l : i < getD a (storeCountAt T k) 0 = omega (arith, stores-word) in
-            rw (list-word firstStore i (omega arith)) (cells-in T (storesAt T k) (getD a (storeCountAt T k) 0) a (w .4) i l);
+        state-few = omega (arith, leb-true (stateOf T k a) lastState (v .0), state-in-slot T k a);
+        few-cells = λ l. omega (arith, good-count l (good l), count-in-slot T k a l);
+        cells-in = λ l i h.
+            let m : i < getD a (countAt l T k) 0 = omega (arith, count-in-slot T k a l) in
+            omega (arith, list-word l i (omega (arith, good-count l (good l))), good-cells l (good l) i m);
       }
 
   module _ (p : SlotPassed T (slotAt T k a)) where
-    pub reads-count-few : getD a (readCountAt T k) 0 ≤ listWords
-    reads-count-few = omega (arith, reads-word, p .reads-few)
+    pub count-few : (l : ListKind) → getD a (countAt l T k) 0 ≤ listWords
+    count-few l = omega (arith, count-in-slot T k a l, p .few-cells l)
 
-    pub stores-count-few : getD a (storeCountAt T k) 0 ≤ listWords
-    stores-count-few = omega (arith, stores-word, p .stores-few)
+    list-in : (l : ListKind) (i : ℕ) → i < getD a (countAt l T k) 0 → getD a (listAt l T k + i) 0 < T
+    list-in l i h = omega (arith, list-word l i (omega (arith, count-few l)), p .cells-in l i (omega (arith, count-in-slot T k a l)))
 
-    read-in : (i : ℕ) → i < getD a (readCountAt T k) 0 → getD a (readsAt T k + i) 0 < T
-    read-in i l =
-        omega (arith, list-word firstRead i (omega (arith, reads-count-few)), p .reads-in i (omega (arith, reads-word)))
-
-    store-in : (i : ℕ) → i < getD a (storeCountAt T k) 0 → getD a (storesAt T k + i) 0 < T
-    store-in i l =
-        omega (arith, list-word firstStore i (omega (arith, stores-count-few)), p .stores-in i (omega (arith, stores-word)))
+    passed-list : (l : ListKind) → listGood l T k a ≡ true
+    unfolding listGood
+    passed-list l =
+        both-and (le-leb _ _ (count-few l)) (at-below T (listAt l T k) (getD a (countAt l T k) 0) a (list-in l))
 
     passed-slot : slotGood T k a ≡ true
     unfolding slotGood
     passed-slot =
-        rw (
-          le-leb (getD a (stateAt T k) 0) lastState (omega (arith, state-word, p .state-few)),
-          le-leb (getD a (readCountAt T k) 0) listWords reads-count-few,
-          le-leb (getD a (storeCountAt T k) 0) listWords stores-count-few,
-          in-cells T (readsAt T k) (getD a (readCountAt T k) 0) a read-in,
-          in-cells T (storesAt T k) (getD a (storeCountAt T k) 0) a store-in,
-        )
+        both-and
+        (both-and (le-leb (stateOf T k a) lastState (omega (arith, state-in-slot T k a, p .state-few))) (passed-list Reads))
+        (passed-list Stores)
 
     -- program k's cells are the table's
-    pub reads-below : (c : ℕ) → has c (readsOf T k a) ≡ true → c < T
-    unfolding readsOf
-    reads-below c h = let w = words-has (readsAt T k) (getD a (readCountAt T k) 0) a c h in omega (arith, read-in (w .0) (w .1), w .2)
+    pub list-below : (l : ListKind) (c : ℕ) → has c (listOf l T k a) ≡ true → c < T
+    unfolding listOf
+    list-below l c h = let w = words-has (listAt l T k) (getD a (countAt l T k) 0) a c h in omega (arith, list-in l (w .0) (w .1), w .2)
 
-    pub stores-below : (c : ℕ) → has c (storesOf T k a) ≡ true → c < T
-    unfolding storesOf
-    stores-below c h = let w = words-has (storesAt T k) (getD a (storeCountAt T k) 0) a c h in omega (arith, store-in (w .0) (w .1), w .2)
+    pub slotted : Lies T k a → Slotted T k a
+    slotted lies = record { lies = lies; few = count-few; inside = list-in }
 
-    pub slotted : T ≤ maxCells → k < maxPrograms → slotStart T k + slotWords ≤ length a → Slotted T k a
-    slotted few number lies =
-        record {
-          cells-few = few;
-          number-few = number;
-          lies = lies;
-          reads-few = reads-count-few;
-          stores-few = stores-count-few;
-          reads-in = read-in;
-          stores-in = store-in;
-        }
+-- a slot that holds a log which fits passes
+pub layout-passed : (T state detail : ℕ) (l : Log) → Fits T l → state ≤ lastState → SlotPassed T (layout state detail l)
+layout-passed T state detail l f few =
+    record {
+      state-few = rw (layout-state state detail l) few;
+      few-cells = λ k. rw (layout-count state detail l k) (f .few k);
+      cells-in = λ k i h.
+          let m : i < length (cellsOf k l) = rw (layout-count state detail l k) at h in
+          rw (layout-list state detail l T f k i (omega (arith, f .few k))) (f .inside k (getD (cellsOf k l) i 0) (has-getD (cellsOf k l) i m));
+    }
 
 module _ (T n : ℕ) (a : List ℕ) where
-  marks-few : (at : ℕ) → marksGood at T n a ≡ true → (c : ℕ) → c < T → getD a (at + c) 0 ≤ n
-  unfolding marksGood
-  marks-few at e c l = leb-true _ _ (every-at T (λ q. leb (getD a (at + q) 0) n) e c l)
-
-  few-marks : (at : ℕ) → ((c : ℕ) → c < T → getD a (at + c) 0 ≤ n) → marksGood at T n a ≡ true
-  unfolding marksGood
-  few-marks at h = every-from T (λ q. leb (getD a (at + q) 0) n) (λ c l. le-leb _ _ (h c l))
-
   pub good-passed : wordsGood T n a ≡ true → Passed T n a
   unfolding wordsGood slotsGood
   good-passed good =
-      let w : Bool = marksGood (writeMarks T) T n a in
-      let r : Bool = marksGood (readMarks T) T n a in
-      let both : w && r ≡ true = and-left (w && r) (slotsGood T n a) good in
+      let w = and-both (marksGood Write T n a && marksGood Read T n a) (slotsGood T n a) good in
+      let v = and-both (marksGood Write T n a) (marksGood Read T n a) (w .0) in
       record {
-        write-marks = marks-few (writeMarks T) (and-left w r both);
-        read-marks = marks-few (readMarks T) (and-right w r both);
-        slots = λ k l. slot-passed T k a (every-at n (λ q. slotGood T q a) (and-right (w && r) (slotsGood T n a) good) k l);
+        marks = each-mark _ (marks-few Write (v .0)) (marks-few Read (v .1));
+        slots = λ k l. slot-passed T k a (every-at n (λ q. slotGood T q a) (w .1) k l);
       }
+    where
+      marks-few : (m : MarkKind) → marksGood m T n a ≡ true → (c : ℕ) → c < T → getD a (marksAt m T + c) 0 ≤ n
+      marks-few m e c l = let h = below-at (n + 1) (marksAt m T) T a e c l in omega arith
 
   pub passed-good : Passed T n a → wordsGood T n a ≡ true
   unfolding wordsGood slotsGood
   passed-good p =
-      both-and
-      (both-and (few-marks (writeMarks T) (p .write-marks)) (few-marks (readMarks T) (p .read-marks)))
-      (every-from n (λ k. slotGood T k a) (λ k l. passed-slot T k a (p .slots k l)))
+      both-and (both-and (few-marks Write) (few-marks Read)) (every-from n (λ k. slotGood T k a) (λ k l. passed-slot T k a (p .slots k l)))
+    where
+      few-marks : (m : MarkKind) → marksGood m T n a ≡ true
+      few-marks m = at-below (n + 1) (marksAt m T) T a (λ c l. omega (arith, p .marks m c l))
 
--- ---- what the checks 1 to 7 show of a program
+-- ---- what the checks 1 to 7 show of the area and of a program
+
+-- of an area that has passed checks 1 to 6, or 1 to 7
+pub room-measured : (image t a : List ℕ) → openRefusal image t a .number ≡ 0 → (n : ℕ) → n ≡ countOf image → Measured (length t) n a
+room-measured image t a e n q =
+    let r = open-shows image t a e in
+    record { cells-few = r .cells-few; programs-few = omega (arith, few image (r .accepted)); sized = rw q (r .sized) }
+
+pub measured-lies : (T n : ℕ) (a : List ℕ) → Measured T n a → (k : ℕ) → k < n → Lies T k a
+measured-lies T n a m k l =
+    record { cells-few = m .cells-few; number-few = omega (arith, m .programs-few); lies = omega (arith, m .sized) }
 
 module _ (image t a : List ℕ) (c : Checked image t a) where
+  pub measured : (n : ℕ) → n ≡ countOf image → Measured (length t) n a
+  measured n e = record { cells-few = c .cells-few; programs-few = omega (arith, c .programs); sized = rw e (c .sized) }
+
   pub checked-passed : Passed (length t) (countOf image) a
   checked-passed = good-passed (length t) (countOf image) a (c .good)
 
+  pub program-lies : (k : ℕ) → k < countOf image → Lies (length t) k a
+  program-lies k l = measured-lies (length t) (countOf image) a (measured (countOf image) refl) k l
+
   pub program-slotted : (k : ℕ) → k < countOf image → Slotted (length t) k a
-  program-slotted k l =
-      slotted (length t) k a (checked-passed .slots k l) (c .cells-few) (omega (arith, c .programs)) (omega (arith, c .sized))
+  program-slotted k l = slotted (length t) k a (checked-passed .slots k l) (program-lies k l)

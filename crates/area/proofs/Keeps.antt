@@ -15,15 +15,16 @@ use Rattle.base.proofs.Bools.{known, or-false}
 use Rattle.base.proofs.Parts.{words-agree}
 use Rattle.image.specs.Image.{countOf}
 use Rattle.slot.specs.States.{lastState}
-use Rattle.slot.specs.Layout.{stateWord, detailWord, readCount, storeCount, firstRead, firstStore, slotWords}
+use Rattle.slot.specs.Layout.{stateWord, detailWord, countWord, firstWord, slotWords}
+use Rattle.slot.proofs.ListKinds.{count-low, list-lies}
 use Rattle.slot.proofs.Slots.{zeros-at}
-use Rattle.area.specs.Layout.{areaWords, writeMarks, readMarks, slotStart, slotAt, withSlot, withState}
+use Rattle.area.specs.declared.MarkKind.{MarkKind}
+use Rattle.area.specs.Layout.{areaWords, marksAt, slotStart, slotAt, withSlot, withState}
 use Rattle.area.specs.Marks.{markOf, lower, reserve}
 use Rattle.area.specs.Checks.{openRefusal, Checked}
 use Rattle.area.proofs.Views.{slot-word, slot-sized}
-use Rattle.area.proofs.Changes.{slot-own, slot-other, slot-write-marks, slot-read-marks, state-own, state-other, state-write-marks}
-use Rattle.area.proofs.Changes.{state-read-marks, writes-slot, reads-slot}
-use Rattle.area.proofs.Checks.{SlotPassed, Passed, passed-good, room-shows, open-shows, few}
+use Rattle.area.proofs.Changes.{slot-own, slot-other, slot-marks, state-own, state-other, state-marks, reserve-slot}
+use Rattle.area.proofs.Checks.{SlotPassed, Passed, passed-good, open-shows, few}
 
 same-passed : (T : ℕ) (s s′ : List ℕ) → s′ ≡ s → SlotPassed T s → SlotPassed T s′
 same-passed T s s′ e p = subst (λ (x : List ℕ). SlotPassed T x) (sym e) p
@@ -47,8 +48,7 @@ pub slot-keeps : (T n k : ℕ) (s a : List ℕ) → length s ≡ slotWords → l
     → Passed T n (withSlot T k s a)
 slot-keeps T n k s a full sized l g p =
     record {
-      write-marks = same-few (writeMarks T) T n a (withSlot T k s a) (slot-write-marks T n k s a full sized l) (p .write-marks);
-      read-marks = same-few (readMarks T) T n a (withSlot T k s a) (slot-read-marks T n k s a full sized l) (p .read-marks);
+      marks = λ m. same-few (marksAt m T) T n a (withSlot T k s a) (slot-marks T n k s a full sized l m) (p .marks m);
       slots =
           one-slot T n k a (withSlot T k s a) (same-passed T s (slotAt T k (withSlot T k s a)) (slot-own T n k s a full sized l) g)
           (slot-other T n k s a full sized l) (p .slots);
@@ -66,10 +66,9 @@ state-passed T state detail s full few p =
             getD-set-other (set s stateWord state) detailWord stateWord detail 0 (λ e. omega arith),
             getD-set-same s stateWord state 0 (omega arith),
           );
-      reads-few = rw (after readCount (omega arith)) (p .reads-few);
-      stores-few = rw (after storeCount (omega arith)) (p .stores-few);
-      reads-in = λ i l. rw (after (firstRead + i) (omega arith)) (p .reads-in i (rw (after readCount (omega arith)) at l));
-      stores-in = λ i l. rw (after (firstStore + i) (omega arith)) (p .stores-in i (rw (after storeCount (omega arith)) at l));
+      few-cells = λ l. rw (after (countWord l) (count-low l .0)) (p .few-cells l);
+      cells-in = λ l i h.
+          rw (after (firstWord l + i) (omega (arith, list-lies l .0))) (p .cells-in l i (rw (after (countWord l) (count-low l .0)) at h));
     }
   where
     after : (i : ℕ) → detailWord < i → getD (set (set s stateWord state) detailWord detail) i 0 ≡ getD s i 0
@@ -83,8 +82,7 @@ state-keeps T n k state detail a sized l few p =
     let own : SlotPassed T (slotAt T k (withState T k state detail a)) =
     same-passed T _ _ (state-own T k state detail a) (state-passed T state detail (slotAt T k a) full few (p .slots k l)) in
     record {
-      write-marks = same-few (writeMarks T) T n a (withState T k state detail a) (state-write-marks T k state detail a) (p .write-marks);
-      read-marks = same-few (readMarks T) T n a (withState T k state detail a) (state-read-marks T k state detail a) (p .read-marks);
+      marks = λ m. same-few (marksAt m T) T n a (withState T k state detail a) (state-marks T k state detail a m) (p .marks m);
       slots = one-slot T n k a (withState T k state detail a) own (λ j h q. state-other T k state detail a j q) (p .slots);
     }
 
@@ -114,36 +112,24 @@ reserve-few at k n j (c ∷ cs) a l h =
     let v : ℕ = lower (getD a (at + c) 0) (markOf k) in
     reserve-few at k n j cs (set a (at + c) v) l (set-few a (at + c) v n j (omega (arith, lower-few (getD a (at + c) 0) (markOf k))) h)
 
-module _ (T n k : ℕ) (cs a : List ℕ) (l : k < n) (f : (c : ℕ) → has c cs ≡ true → c < T) (p : Passed T n a) where
-  pub writes-keep : Passed T n (reserve (writeMarks T) cs k a)
-  writes-keep =
-      record {
-        write-marks = λ c h. reserve-few (writeMarks T) k n (writeMarks T + c) cs a l (p .write-marks c h);
-        read-marks = λ c h. reserve-few (writeMarks T) k n (readMarks T + c) cs a l (p .read-marks c h);
-        slots = λ j h. same-passed T _ _ (writes-slot T k cs a f j) (p .slots j h);
-      }
-
-  pub reads-keep : Passed T n (reserve (readMarks T) cs k a)
-  reads-keep =
-      record {
-        write-marks = λ c h. reserve-few (readMarks T) k n (writeMarks T + c) cs a l (p .write-marks c h);
-        read-marks = λ c h. reserve-few (readMarks T) k n (readMarks T + c) cs a l (p .read-marks c h);
-        slots = λ j h. same-passed T _ _ (reads-slot T k cs a f j) (p .slots j h);
-      }
+pub reserve-keeps : (T n k : ℕ) (m : MarkKind) (cs a : List ℕ) → k < n → ((c : ℕ) → has c cs ≡ true → c < T) → Passed T n a
+    → Passed T n (reserve (marksAt m T) cs k a)
+reserve-keeps T n k m cs a l f p =
+    record {
+      marks = λ q c h. reserve-few (marksAt m T) k n (marksAt q T + c) cs a l (p .marks q c h);
+      slots = λ j h. same-passed T _ _ (reserve-slot T k cs a f m j) (p .slots j h);
+    }
 
 -- ---- an area of zeros
 
 pub zeros-pass : (T n m : ℕ) → Passed T n (replicate m 0)
 zeros-pass T n m =
     record {
-      write-marks = λ c l. omega (arith, zeros-at m (writeMarks T + c));
-      read-marks = λ c l. omega (arith, zeros-at m (readMarks T + c));
+      marks = λ q c l. omega (arith, zeros-at m (marksAt q T + c));
       slots = λ k l. record {
         state-few = omega (arith, zero-word k stateWord (omega arith));
-        reads-few = omega (arith, zero-word k readCount (omega arith));
-        stores-few = omega (arith, zero-word k storeCount (omega arith));
-        reads-in = λ i h. absurd (omega (arith, zero-word k readCount (omega arith)));
-        stores-in = λ i h. absurd (omega (arith, zero-word k storeCount (omega arith)));
+        few-cells = λ q. omega (arith, zero-word k (countWord q) (count-low q .1));
+        cells-in = λ q i h. absurd (omega (arith, zero-word k (countWord q) (count-low q .1)));
       };
     }
   where
@@ -176,15 +162,14 @@ checked-table image t u a c e =
     }
 
 -- an area that opening has set to 0
-pub checked-open : (image t a : List ℕ) → openRefusal image t a ≡ 0 → Checked image t (replicate (length a) 0)
+pub checked-open : (image t a : List ℕ) → openRefusal image t a .number ≡ 0 → Checked image t (replicate (length a) 0)
 checked-open image t a e =
-    let w = open-shows image t a e in
-    let m = room-shows (countOf image) t a (w .1) in
+    let r = open-shows image t a e in
     record {
-      accepted = w .0;
-      programs = few image (w .0);
-      cells-some = m .0;
-      cells-few = m .1;
-      sized = length-replicate (length a) 0 ∙ m .2;
+      accepted = r .accepted;
+      programs = few image (r .accepted);
+      cells-some = r .cells-some;
+      cells-few = r .cells-few;
+      sized = length-replicate (length a) 0 ∙ r .sized;
       good = passed-good (length t) (countOf image) (replicate (length a) 0) (zeros-pass (length t) (countOf image) (length a));
     }

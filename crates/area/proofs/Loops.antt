@@ -10,7 +10,7 @@ use lib.Seq.{drop-cons, drop-length, getD-set-other}
 use Rattle.base.specs.Words.{words}
 use Rattle.base.proofs.Parts.{words-length, words-at}
 use Rattle.area.specs.Marks.{markOf, lower, reserve, earlier, hit, storeAll}
-use Rattle.area.specs.Checks.{Names, Stores}
+use Rattle.area.specs.Checks.{Names, Storing}
 
 -- ---- the words at a place, from i on
 
@@ -82,7 +82,7 @@ module _ (marks at count k : ℕ) (a : List ℕ) (names : Names marks at count a
 
 -- ---- a loop that stores
 
-module _ (cells values count : ℕ) (a t₀ : List ℕ) (s : Stores cells values count a t₀) (i : ℕ) (t : List ℕ)
+module _ (cells values count : ℕ) (a t₀ : List ℕ) (s : Storing cells values count a t₀) (i : ℕ) (t : List ℕ)
     (left : storeAll (drop i (words cells count a)) (drop i (words values count a)) t
     ≡ storeAll (words cells count a) (words values count a) t₀) where
   pub storing-next : i < count

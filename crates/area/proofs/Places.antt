@@ -1,77 +1,64 @@
--- A program's slot, as the code finds it: r is where it begins. Assumes nothing.
-use Prim.Native.Nat.{ℕ, _+_, _≤_}
-use mathlib.Core.Path.{_≡_, sym, ap, subst, _∙_}
-use mathlib.Core.Bool.{Bool, false, cond}
+-- A program's list, as the code finds it: s is where it lies and how long it is. Assumes nothing.
+use Prim.Native.Nat.{ℕ, _+_, _≤_, _<_}
+use mathlib.Core.Path.{_≡_, sym, subst, _∙_}
+use mathlib.Core.Bool.{Bool, false}
 use mathlib.Core.List.{List}
 use native.Mathlib.Omega.{arith}
 use lib.ListN.{length, getD}
-use lib.Dec.{leb}
+use borrow.Author.Tests.{le-leb, lt-leb}
 use Rattle.base.specs.Words.{words}
-use Rattle.slot.specs.States.{lastState}
-use Rattle.slot.specs.Layout.{readCount, storeCount, listWords, firstRead, firstStore, firstValue}
-use Rattle.area.specs.Layout.{firstSlot, slotStart, readsOf, storesOf, valuesOf}
-use Rattle.area.specs.Marks.{storeAll}
-use Rattle.area.specs.Checks.{cellsGood, slotGood, Slotted, Names, Stores}
+use Rattle.slot.specs.Layout.{listWords}
+use Rattle.slot.specs.declared.ListKind.{ListKind}
+use Rattle.slot.specs.declared.ListKind.the-variants.{Stores}
+use Rattle.slot.proofs.ListKinds.{count-low, list-lies}
+use Rattle.area.specs.declared.MarkKind.{MarkKind}
+use Rattle.area.specs.declared.Span.{Span}
+use Rattle.area.specs.Layout.{marksAt, slotStart, countAt, listAt, valuesAt, spanOf, listOf, valuesOf}
+use Rattle.area.specs.Marks.{storedBy, committed}
+use Rattle.area.specs.Checks.{allBelow, listGood, Lies, Slotted, Names, Storing}
+use Rattle.area.proofs.Views.{marks-low}
 
--- check 7 of a slot that begins at r
-abbrev pub goodFrom : ℕ → ℕ → List ℕ → Bool
-goodFrom T r a =
-    cond (leb (getD a r 0) lastState)
-    (cond (leb (getD a (r + readCount) 0) listWords)
-    (cond (leb (getD a (r + storeCount) 0) listWords)
-    (cond (cellsGood T (r + firstRead) (getD a (r + readCount) 0) a) (cellsGood T (r + firstStore) (getD a (r + storeCount) 0) a) false)
-    false)
-    false)
-    false
+module _ (T k : ℕ) (a : List ℕ) (l : ListKind) (s : Span) (e : s ≡ spanOf l T k a) where
+  -- what is done with the list there, and the marks that begin at m, is done with the program's list
+  pub by-span : {A : Type 0} (f : ℕ → List ℕ → A) (m marks : ℕ) → m ≡ marks → (x : A) → x ≡ f m (words (s .at) (s .count) a) → x ≡ f marks (listOf l T k a)
+  unfolding listOf
+  by-span f m marks q x h = h ∙ rw (q, e)
 
-module _ (T k r : ℕ) (a : List ℕ) (e : r ≡ slotStart T k) where
-  pub slot-good-from : slotGood T k a ≡ goodFrom T r a
-  unfolding slotGood
-  slot-good-from = ap (λ (x : ℕ). goodFrom T x a) (sym e)
+  -- it is such as the loops over it need
+  pub names-list : Slotted T k a → (m : MarkKind) (marks : ℕ) → marks ≡ marksAt m T → Names marks (s .at) (s .count) a
+  names-list r m marks q =
+      subst (λ (x : Span). Names marks (x .at) (x .count) a) (sym e)
+      (record {
+        few = r .few l;
+        lies = omega (arith, r .few l, r .lies .lies, list-lies l .1);
+        before-at = λ i h. omega (arith, r .inside l i h, marks-low T m, list-lies l .0);
+      })
 
-  -- what is done with a list of the slot and the marks that begin at m, is done with the program's list
-  pub by-reads : {A : Type 0} (f : ℕ → List ℕ → A) (m marks : ℕ) → m ≡ marks
-      → (x : A) → x ≡ f m (words (r + firstRead) (getD a (r + readCount) 0) a) → x ≡ f marks (readsOf T k a)
-  unfolding readsOf
-  by-reads f m marks q x h = h ∙ rw (q, e)
+  -- and check 7 of it
+  pub list-long : listWords < s .count → false ≡ listGood l T k a
+  unfolding listGood
+  list-long h = let g : listWords < getD a (countAt l T k) 0 = rw e at h in rw (lt-leb _ _ g)
 
-  pub by-stores : {A : Type 0} (f : ℕ → List ℕ → A) (m marks : ℕ) → m ≡ marks
-      → (x : A) → x ≡ f m (words (r + firstStore) (getD a (r + storeCount) 0) a) → x ≡ f marks (storesOf T k a)
-  unfolding storesOf
-  by-stores f m marks q x h = h ∙ rw (q, e)
+  pub list-short : s .count ≤ listWords → (b : Bool) → b ≡ allBelow T (s .at) (s .count) a → b ≡ listGood l T k a
+  unfolding listGood
+  list-short h b q = let g : getD a (countAt l T k) 0 ≤ listWords = rw e at h in q ∙ rw (e, le-leb _ _ g)
 
-  pub by-values : (t u : List ℕ)
-      → u ≡ storeAll (words (r + firstStore) (getD a (r + storeCount) 0) a) (words (r + firstValue) (getD a (r + storeCount) 0) a) t
-      → u ≡ storeAll (storesOf T k a) (valuesOf T k a) t
-  unfolding storesOf valuesOf
-  by-values t u h = h ∙ rw e
+  pub list-there : Lies T k a → s .count ≤ listWords → s .at + s .count ≤ length a
+  list-there r h =
+      subst (λ (x : Span). x .count ≤ listWords → x .at + x .count ≤ length a) (sym e)
+      (λ g. omega (arith, r .lies, list-lies l .1)) h
 
-  -- the lists are such as the loops over them need
-  module _ (s : Slotted T k a) where
-    pub names-reads : (marks : ℕ) → marks + T ≤ firstSlot T → Names marks (r + firstRead) (getD a (r + readCount) 0) a
-    names-reads marks h =
-        subst (λ (x : ℕ). Names marks (x + firstRead) (getD a (x + readCount) 0) a) (sym e)
-        (record {
-          few = s .reads-few;
-          lies = omega (arith, s .reads-few, s .lies);
-          before-at = λ i l. omega (arith, s .reads-in i l);
-        })
+module _ (k : ℕ) (a t : List ℕ) (s : Span) (e : s ≡ spanOf Stores (length t) k a) (values : ℕ) (q : values ≡ valuesAt (length t) k) where
+  pub by-stores : (u : List ℕ) → u ≡ storedBy (s .at) values (s .count) a t → u ≡ committed (length t) k a t
+  unfolding listOf valuesOf
+  by-stores u h = h ∙ rw (q, e)
 
-    pub names-stores : (marks : ℕ) → marks + T ≤ firstSlot T → Names marks (r + firstStore) (getD a (r + storeCount) 0) a
-    names-stores marks h =
-        subst (λ (x : ℕ). Names marks (x + firstStore) (getD a (x + storeCount) 0) a) (sym e)
-        (record {
-          few = s .stores-few;
-          lies = omega (arith, s .stores-few, s .lies);
-          before-at = λ i l. omega (arith, s .stores-in i l);
-        })
-
-    pub stores-table : (t : List ℕ) → T ≡ length t → Stores (r + firstStore) (r + firstValue) (getD a (r + storeCount) 0) a t
-    stores-table t q =
-        subst (λ (x : ℕ). Stores (x + firstStore) (x + firstValue) (getD a (x + storeCount) 0) a t) (sym e)
-        (record {
-          few = s .stores-few;
-          cells-lie = omega (arith, s .stores-few, s .lies);
-          values-lie = omega (arith, s .stores-few, s .lies);
-          in-table = λ i l. omega (arith, s .stores-in i l);
-        })
+  pub stores-list : Slotted (length t) k a → Storing (s .at) values (s .count) a t
+  stores-list r =
+      subst (λ (x : Span). Storing (x .at) values (x .count) a t) (sym e)
+      (record {
+        few = r .few Stores;
+        cells-lie = omega (arith, r .few Stores, r .lies .lies);
+        values-lie = omega (arith, q, r .few Stores, r .lies .lies);
+        in-table = λ i h. r .inside Stores i h;
+      })

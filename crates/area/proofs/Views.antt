@@ -1,21 +1,34 @@
--- The area read as write marks, read marks and slots: together they are the whole, and everything about a program stands in its slot.
--- Assumes nothing.
+-- The area read as marks and slots: together they are the whole, and everything about a program stands in its slot. Assumes nothing.
 use Prim.Native.Nat.{ℕ, zero, suc, _+_, _-_, _≤_, _<_}
-use mathlib.Core.Path.{_≡_, refl, sym, ap, _∙_}
-use mathlib.Core.Bool.{Bool, true, _||_}
-use mathlib.Core.List.{List, [], _∷_}
+use mathlib.Core.Path.{_≡_, sym, ap, _∙_}
+use mathlib.Core.Logic.{_⊎_, inl, inr}
+use mathlib.Core.List.{List}
 use native.Mathlib.Omega.{arith}
 use native.Mathlib.Decide.{decLt}
 use lib.ListN.{length, getD}
 use lib.Seq.{ext-getD}
-use Rattle.base.specs.Words.{has, words}
-use Rattle.base.proofs.Members.{has-head, has-tail}
+use Rattle.base.specs.Words.{words}
 use Rattle.base.proofs.Parts.{words-length, words-at, words-agree, words-in}
-use Rattle.slot.specs.Layout.{stateWord, detailWord, readCount, storeCount, listWords, firstRead, firstStore, firstValue, slotWords}
+use Rattle.slot.specs.declared.ListKind.{ListKind}
+use Rattle.slot.specs.declared.ListKind.the-variants.{Reads, Stores}
+use Rattle.slot.specs.Layout.{stateWord, detailWord, listWords, firstValue, countWord, firstWord, slotWords}
 use Rattle.slot.specs.Log.{logOf}
-use Rattle.area.specs.Layout.{areaWords, writeMarks, readMarks, firstSlot, slotStart, stateAt, readCountAt, storeCountAt, stateOf}
-use Rattle.area.specs.Layout.{detailOf, slotAt, readsOf, storesOf, valuesOf}
-use Rattle.area.specs.Marks.{earlier, hit, waw, raw, war}
+use Rattle.slot.proofs.ListKinds.{count-low, list-lies}
+use Rattle.area.specs.declared.MarkKind.{MarkKind}
+use Rattle.area.specs.declared.MarkKind.the-variants.{Write, Read}
+use Rattle.area.specs.Layout.{areaWords, marksAt, firstSlot, slotStart, stateAt, countAt, stateOf, detailOf, slotAt, listOf, readsOf}
+use Rattle.area.specs.Layout.{storesOf, valuesOf}
+
+-- ---- the kinds of marks
+
+-- a fact of both kinds
+pub each-mark : (P : MarkKind → Type 0) → P Write → P Read → (m : MarkKind) → P m
+each-mark P w r Write = w
+each-mark P w r Read = r
+
+-- marks stand before the slots, and those of two kinds do not overlap
+pub marks-low : (T : ℕ) (m : MarkKind) → marksAt m T + T ≤ firstSlot T
+marks-low T = each-mark _ (omega arith) (omega arith)
 
 -- ---- marks and slots are the whole area
 
@@ -32,18 +45,17 @@ in-slot T (suc n) i h l = go (decLt i (slotStart T n)) (in-slot T n i h)
     go (no p) f = (n, omega arith, omega arith, omega arith)
 
 pub area-ext : (T n : ℕ) (a b : List ℕ) → length a ≡ areaWords T n → length b ≡ areaWords T n
-    → words (writeMarks T) T a ≡ words (writeMarks T) T b → words (readMarks T) T a ≡ words (readMarks T) T b
-    → ((k : ℕ) → k < n → slotAt T k a ≡ slotAt T k b) → a ≡ b
+    → ((m : MarkKind) → words (marksAt m T) T a ≡ words (marksAt m T) T b) → ((k : ℕ) → k < n → slotAt T k a ≡ slotAt T k b) → a ≡ b
 unfolding slotAt
-area-ext T n a b la lb w r s =
+area-ext T n a b la lb w s =
     ext-getD 0 a b (la ∙ sym lb) (λ i l. go i (omega (arith, la)) (decLt i T) (decLt i (firstSlot T)))
   where
     at : (p m : ℕ) → words p m a ≡ words p m b → (i j : ℕ) → j < m → p + j ≡ i → getD a i 0 ≡ getD b i 0
     at p m e i j l q = rw q at (words-agree p m a b e j l)
 
     go : (i : ℕ) → i < areaWords T n → Dec (i < T) → Dec (i < firstSlot T) → getD a i 0 ≡ getD b i 0
-    go i l (yes p) d = at (writeMarks T) T w i i p (omega arith)
-    go i l (no p) (yes q) = at (readMarks T) T r i (i - T) (omega arith) (omega arith)
+    go i l (yes p) d = at (marksAt Write T) T (w Write) i i p (omega arith)
+    go i l (no p) (yes q) = at (marksAt Read T) T (w Read) i (i - T) (omega arith) (omega arith)
     go i l (no p) (no q) =
         let k = in-slot T n i (omega arith) l in
         at (slotStart T (k .0)) slotWords (s (k .0) (k .1)) i (i - slotStart T (k .0)) (k .2) (k .3)
@@ -67,57 +79,26 @@ module _ (T k : ℕ) (a : List ℕ) where
   unfolding detailOf
   detail-in-slot = sym (slot-word T k a detailWord (omega arith))
 
-  read-count : getD a (readCountAt T k) 0 ≡ getD (slotAt T k a) readCount 0
-  read-count = sym (slot-word T k a readCount (omega arith))
-
-  store-count : getD a (storeCountAt T k) 0 ≡ getD (slotAt T k a) storeCount 0
-  store-count = sym (slot-word T k a storeCount (omega arith))
+  pub count-in-slot : (l : ListKind) → getD a (countAt l T k) 0 ≡ getD (slotAt T k a) (countWord l) 0
+  count-in-slot l = sym (slot-word T k a (countWord l) (count-low l .1))
 
   -- a list of the slot, of as many words as there is room for
-  list-in-slot : (at count n : ℕ) → at + listWords ≤ slotWords → count ≤ listWords → count ≡ n
+  words-in-slot : (at count n : ℕ) → at + listWords ≤ slotWords → count ≤ listWords → count ≡ n
       → words (slotStart T k + at) count a ≡ words at n (slotAt T k a)
   unfolding slotAt
-  list-in-slot at count n room few e =
+  words-in-slot at count n room few e =
       sym (words-in (slotStart T k) slotWords at count a (omega arith)) ∙ ap (λ (m : ℕ). words at m (words (slotStart T k) slotWords a)) e
 
-  pub reads-in-slot : getD a (readCountAt T k) 0 ≤ listWords → readsOf T k a ≡ words firstRead (getD (slotAt T k a) readCount 0) (slotAt T k a)
-  unfolding readsOf
-  reads-in-slot few = list-in-slot firstRead _ _ (omega arith) few read-count
+  module _ (few : (l : ListKind) → getD a (countAt l T k) 0 ≤ listWords) where
+    pub list-in-slot : (l : ListKind) → listOf l T k a ≡ words (firstWord l) (getD (slotAt T k a) (countWord l) 0) (slotAt T k a)
+    unfolding listOf
+    list-in-slot l = words-in-slot (firstWord l) _ _ (list-lies l .1) (few l) (count-in-slot l)
 
-  pub stores-in-slot : getD a (storeCountAt T k) 0 ≤ listWords → storesOf T k a ≡ words firstStore (getD (slotAt T k a) storeCount 0) (slotAt T k a)
-  unfolding storesOf
-  stores-in-slot few = list-in-slot firstStore _ _ (omega arith) few store-count
+    values-in-slot : valuesOf T k a ≡ words firstValue (getD (slotAt T k a) (countWord Stores) 0) (slotAt T k a)
+    unfolding valuesOf
+    values-in-slot = words-in-slot firstValue _ _ (omega arith) (few Stores) (count-in-slot Stores)
 
-  pub values-in-slot : getD a (storeCountAt T k) 0 ≤ listWords → valuesOf T k a ≡ words firstValue (getD (slotAt T k a) storeCount 0) (slotAt T k a)
-  unfolding valuesOf
-  values-in-slot few = list-in-slot firstValue _ _ (omega arith) few store-count
-
-  -- the log that the slot holds is the program's three lists
-  pub log-in-slot : getD a (readCountAt T k) 0 ≤ listWords → getD a (storeCountAt T k) 0 ≤ listWords
-      → logOf (slotAt T k a) ≡ record { reads = readsOf T k a; cells = storesOf T k a; values = valuesOf T k a }
-  unfolding logOf
-  log-in-slot r s = rw (reads-in-slot r, stores-in-slot s, values-in-slot s)
-
--- ---- a hit is seen in the marks alone
-
-pub hit-inside : (at T k : ℕ) (cs a : List ℕ) → ((c : ℕ) → has c cs ≡ true → c < T) → hit at cs k a ≡ hit 0 cs k (words at T a)
-unfolding hit
-hit-inside at T k [] a f = refl
-hit-inside at T k (c ∷ cs) a f =
-    let e : c ≡ 0 + c = omega arith in
-    ap (λ (b : Bool). earlier (getD a (at + c) 0) k || b) (hit-inside at T k cs a (λ d h. f d (has-tail d c cs h)))
-    ∙ ap (λ (m : ℕ). earlier m k || hit 0 cs k (words at T a))
-    (sym (words-at at T a c (f c (has-head c cs))) ∙ ap (λ (x : ℕ). getD (words at T a) x 0) e)
-
-module _ (T k : ℕ) (a : List ℕ) where
-  pub waw-inside : ((c : ℕ) → has c (storesOf T k a) ≡ true → c < T) → waw T k a ≡ hit 0 (storesOf T k a) k (words (writeMarks T) T a)
-  unfolding waw
-  waw-inside f = hit-inside (writeMarks T) T k (storesOf T k a) a f
-
-  pub raw-inside : ((c : ℕ) → has c (readsOf T k a) ≡ true → c < T) → raw T k a ≡ hit 0 (readsOf T k a) k (words (writeMarks T) T a)
-  unfolding raw
-  raw-inside f = hit-inside (writeMarks T) T k (readsOf T k a) a f
-
-  pub war-inside : ((c : ℕ) → has c (storesOf T k a) ≡ true → c < T) → war T k a ≡ hit 0 (storesOf T k a) k (words (readMarks T) T a)
-  unfolding war
-  war-inside f = hit-inside (readMarks T) T k (storesOf T k a) a f
+    -- the log that the slot holds is the program's lists
+    pub log-in-slot : logOf (slotAt T k a) ≡ record { reads = readsOf T k a; cells = storesOf T k a; values = valuesOf T k a }
+    unfolding logOf
+    log-in-slot = rw (list-in-slot Reads, list-in-slot Stores, values-in-slot)

@@ -1,17 +1,23 @@
 -- Document 01, "What each refusal says": checks 5, 6, 7 and 9, and the checks that every call on an area begins with. Assumes nothing.
 use Prim.Native.Nat.{ℕ, _+_, _≤_, _<_}
 use mathlib.Core.Path.{_≡_}
-use mathlib.Core.Bool.{Bool, true, false, cond, not, _&&_}
+use mathlib.Core.Bool.{Bool, true, _&&_}
 use mathlib.Core.List.{List}
 use lib.ListN.{length, getD}
 use lib.Dec.{eqb, ltb, leb}
-use Rattle.base.specs.Words.{every, unless}
+use Rattle.base.specs.Words.{every}
 use Rattle.image.specs.Limits.{maxPrograms, minCells, maxCells}
-use Rattle.image.specs.Refusals.{badTable, badAreaSize, badArea}
+use Rattle.image.specs.declared.Refusal.{Refusal}
+use Rattle.image.specs.Refusals as refusal
+use Rattle.image.specs.Refusals.{check, after}
 use Rattle.image.specs.Image.{countOf, refusalOf}
-use Rattle.slot.specs.States.{waiting, lastState, isEnd}
+use Rattle.slot.specs.declared.ListKind.{ListKind}
+use Rattle.slot.specs.declared.ListKind.the-variants.{Reads, Stores}
+use Rattle.slot.specs.States.{gathered, firstEnd, lastState}
 use Rattle.slot.specs.Layout.{listWords, slotWords}
-use Rattle.area.specs.Layout.{areaWords, writeMarks, readMarks, slotStart, stateAt, readCountAt, storeCountAt, readsAt, storesAt, stateOf}
+use Rattle.area.specs.declared.MarkKind.{MarkKind}
+use Rattle.area.specs.declared.MarkKind.the-variants.{Write, Read}
+use Rattle.area.specs.Layout.{areaWords, marksAt, slotStart, stateOf, countAt, listAt}
 
 -- 5, "table of 0 or over 256 cells"
 unfoldable pub tableGood : List ℕ → Bool
@@ -22,76 +28,85 @@ unfoldable pub sizeIs : ℕ → ℕ → List ℕ → Bool
 sizeIs T n a = eqb (length a) (areaWords T n)
 
 -- 7, "a mark over n, a state over 5, a count over 32, or a cell of T or more among the counted ones": it looks at every slot, whatever its state
-unfoldable pub marksGood : ℕ → ℕ → ℕ → List ℕ → Bool
-marksGood at T n a = every T (λ c. leb (getD a (at + c) 0) n)
 
-unfoldable pub cellsGood : ℕ → ℕ → ℕ → List ℕ → Bool
-cellsGood T at count a = every count (λ i. ltb (getD a (at + i) 0) T)
+-- each of count words from a place on is below a bound
+unfoldable pub allBelow : (bound at count : ℕ) → List ℕ → Bool
+allBelow bound at count a = every count (λ i. ltb (getD a (at + i) 0) bound)
+
+abbrev pub marksGood : MarkKind → ℕ → ℕ → List ℕ → Bool
+marksGood m T n a = allBelow (n + 1) (marksAt m T) T a
 
 abbrev pub stateGood : ℕ → ℕ → List ℕ → Bool
-stateGood T k a = leb (getD a (stateAt T k) 0) lastState
+stateGood T k a = leb (stateOf T k a) lastState
 
-abbrev pub readCountGood : ℕ → ℕ → List ℕ → Bool
-readCountGood T k a = leb (getD a (readCountAt T k) 0) listWords
-
-abbrev pub storeCountGood : ℕ → ℕ → List ℕ → Bool
-storeCountGood T k a = leb (getD a (storeCountAt T k) 0) listWords
+unfoldable pub listGood : ListKind → ℕ → ℕ → List ℕ → Bool
+listGood l T k a = leb (getD a (countAt l T k) 0) listWords && allBelow T (listAt l T k) (getD a (countAt l T k) 0) a
 
 unfoldable pub slotGood : ℕ → ℕ → List ℕ → Bool
-slotGood T k a =
-    cond (stateGood T k a)
-    (cond (readCountGood T k a)
-    (cond (storeCountGood T k a)
-    (cond (cellsGood T (readsAt T k) (getD a (readCountAt T k) 0) a) (cellsGood T (storesAt T k) (getD a (storeCountAt T k) 0) a) false)
-    false)
-    false)
-    false
+slotGood T k a = stateGood T k a && listGood Reads T k a && listGood Stores T k a
 
 unfoldable pub slotsGood : ℕ → ℕ → List ℕ → Bool
 slotsGood T n a = every n (λ k. slotGood T k a)
 
 unfoldable pub wordsGood : ℕ → ℕ → List ℕ → Bool
-wordsGood T n a = marksGood (writeMarks T) T n a && marksGood (readMarks T) T n a && slotsGood T n a
+wordsGood T n a = marksGood Write T n a && marksGood Read T n a && slotsGood T n a
 
--- the first of the checks 5 and 6 that fails, or 0; the same for 5, 6 and 7
-unfoldable pub roomRefusal : ℕ → List ℕ → List ℕ → ℕ
-roomRefusal n t a = cond (tableGood t) (cond (sizeIs (length t) n a) 0 badAreaSize) badTable
+-- 9 asks at settling that no state is 0, at the listed order and the next image that none is 0 or 1: that none is below one
+unfoldable pub statesFrom : (least : ℕ) → ℕ → ℕ → List ℕ → Bool
+statesFrom least T n a = every n (λ k. leb least (stateOf T k a))
 
-unfoldable pub areaRefusal : ℕ → List ℕ → List ℕ → ℕ
-areaRefusal n t a = unless (roomRefusal n t a) (λ r. r) (cond (wordsGood (length t) n a) 0 badArea)
+abbrev pub noneWaits : ℕ → ℕ → List ℕ → Bool
+noneWaits = statesFrom gathered
 
--- 1 to 6, as opening makes them, and 1 to 7, as every other call that is lent image, table and area does
-unfoldable pub openRefusal : List ℕ → List ℕ → List ℕ → ℕ
-openRefusal image t a = unless (refusalOf image) (λ r. r) (roomRefusal (countOf image) t a)
+abbrev pub allEnded : ℕ → ℕ → List ℕ → Bool
+allEnded = statesFrom firstEnd
 
-unfoldable pub callRefusal : List ℕ → List ℕ → List ℕ → ℕ
-callRefusal image t a = unless (refusalOf image) (λ r. r) (areaRefusal (countOf image) t a)
+-- ---- which checks go first
 
--- 9 asks at settling that no state is 0, at the listed order and the next image that none is 0 or 1
-unfoldable pub noneWaits : ℕ → ℕ → List ℕ → Bool
-noneWaits T n a = every n (λ k. not (eqb (stateOf T k a) waiting))
+-- 5 and 6, for n programs
+unfoldable pub roomRefusal : ℕ → List ℕ → List ℕ → Refusal
+roomRefusal n t a = check (tableGood t) refusal.tableSize (check (sizeIs (length t) n a) refusal.areaSize refusal.none)
 
-unfoldable pub allEnded : ℕ → ℕ → List ℕ → Bool
-allEnded T n a = every n (λ k. isEnd (stateOf T k a))
+-- 1 to 6, as opening makes them
+unfoldable pub openRefusal : List ℕ → List ℕ → List ℕ → Refusal
+openRefusal image t a = after (refusalOf image) (roomRefusal (countOf image) t a)
 
--- What the checks 1 to 7 have shown: the `requires` of every inner function, which a whole batch has to check once.
+-- 1 to 7, as every other call that is lent image, table and area does
+unfoldable pub callRefusal : List ℕ → List ℕ → List ℕ → Refusal
+callRefusal image t a = after (openRefusal image t a) (check (wordsGood (length t) (countOf image) a) refusal.area refusal.none)
+
+-- and 9, "Order, next image: some state 0 or 1"
+unfoldable pub endedRefusal : List ℕ → List ℕ → List ℕ → Refusal
+endedRefusal image t a = after (callRefusal image t a) (check (allEnded (length t) (countOf image) a) refusal.state refusal.none)
+
+-- ---- what the checks have shown
+
+-- 1 to 7: the `requires` of every inner function, which a whole batch has to check once
 pub record Checked (image t a : List ℕ) : Type 0 where
-  pub accepted : refusalOf image ≡ 0
+  pub accepted : refusalOf image .number ≡ 0
   pub programs : countOf image ≤ maxPrograms
   pub cells-some : 0 < length t
   pub cells-few : length t ≤ maxCells
   pub sized : length a ≡ areaWords (length t) (countOf image)
   pub good : wordsGood (length t) (countOf image) a ≡ true
 
--- And what that says of program k: its slot lies in the area, and its cells are the table's.
-pub record Slotted (T k : ℕ) (a : List ℕ) : Type 0 where
+-- the area has the words for T cells and n programs
+pub record Measured (T n : ℕ) (a : List ℕ) : Type 0 where
+  pub cells-few : T ≤ maxCells
+  pub programs-few : n ≤ maxPrograms
+  pub sized : length a ≡ areaWords T n
+
+-- program k's slot lies in the area
+pub record Lies (T k : ℕ) (a : List ℕ) : Type 0 where
   pub cells-few : T ≤ maxCells
   pub number-few : k < maxPrograms
   pub lies : slotStart T k + slotWords ≤ length a
-  pub reads-few : getD a (readCountAt T k) 0 ≤ listWords
-  pub stores-few : getD a (storeCountAt T k) 0 ≤ listWords
-  pub reads-in : (i : ℕ) → i < getD a (readCountAt T k) 0 → getD a (readsAt T k + i) 0 < T
-  pub stores-in : (i : ℕ) → i < getD a (storeCountAt T k) 0 → getD a (storesAt T k + i) 0 < T
+
+-- and its cells are the table's
+pub record Slotted (T k : ℕ) (a : List ℕ) : Type 0 where
+  pub lies : Lies T k a
+  pub few : (l : ListKind) → getD a (countAt l T k) 0 ≤ listWords
+  pub inside : (l : ListKind) (i : ℕ) → i < getD a (countAt l T k) 0 → getD a (listAt l T k + i) 0 < T
 
 -- The count words from a place on lie in the area, and each names a mark before the place, in the marks that begin at `marks`.
 pub record Names (marks at count : ℕ) (a : List ℕ) : Type 0 where
@@ -100,7 +115,7 @@ pub record Names (marks at count : ℕ) (a : List ℕ) : Type 0 where
   pub before-at : (i : ℕ) → i < count → marks + getD a (at + i) 0 < at
 
 -- The count words from a place on lie in the area, and so do those at another place; each of the first names a cell of the table.
-pub record Stores (cells values count : ℕ) (a t : List ℕ) : Type 0 where
+pub record Storing (cells values count : ℕ) (a t : List ℕ) : Type 0 where
   pub few : count ≤ listWords
   pub cells-lie : cells + count ≤ length a
   pub values-lie : values + count ≤ length a

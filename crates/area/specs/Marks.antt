@@ -4,11 +4,21 @@ use mathlib.Core.Bool.{Bool, false, cond, _&&_, _||_}
 use mathlib.Core.List.{List, [], _∷_}
 use lib.ListN.{getD, set}
 use lib.Dec.{eqb, ltb, leb}
-use Rattle.area.specs.Layout.{writeMarks, readMarks, readsOf, storesOf}
+use Rattle.base.specs.Words.{words}
+use Rattle.slot.specs.declared.ListKind.{ListKind}
+use Rattle.slot.specs.declared.ListKind.the-variants.{Reads, Stores}
+use Rattle.area.specs.declared.MarkKind.{MarkKind}
+use Rattle.area.specs.declared.MarkKind.the-variants.{Write, Read}
+use Rattle.area.specs.Layout.{marksAt, listOf, storesOf, valuesOf}
 
 -- A mark is "0, or 1 + the smallest number of a gathered program that stores (reads) the cell".
 abbrev pub markOf : ℕ → ℕ
 markOf k = k + 1
+
+-- the list whose cells the marks of a kind name
+abbrev pub listFor : MarkKind → ListKind
+listFor Write = Stores
+listFor Read = Reads
 
 -- "a mark that is 0 or larger becomes this program's"
 unfoldable pub lower : ℕ → ℕ → ℕ
@@ -28,18 +38,29 @@ unfoldable pub hit : ℕ → List ℕ → ℕ → List ℕ → Bool
 hit at [] k a = false
 hit at (c ∷ cs) k a = earlier (getD a (at + c) 0) k || hit at cs k a
 
+-- some cell of program k's list of a kind has such a mark of a kind
+unfoldable pub depends : ListKind → MarkKind → ℕ → ℕ → List ℕ → Bool
+depends l m T k a = hit (marksAt m T) (listOf l T k a) k a
+
 -- "WAW: a stored cell's write mark names an earlier program. RAW: a read cell's write mark does. WAR: a stored cell's read mark does."
-unfoldable pub waw : ℕ → ℕ → List ℕ → Bool
-waw T k a = hit (writeMarks T) (storesOf T k a) k a
+abbrev pub waw : ℕ → ℕ → List ℕ → Bool
+waw T k a = depends Stores Write T k a
 
-unfoldable pub raw : ℕ → ℕ → List ℕ → Bool
-raw T k a = hit (writeMarks T) (readsOf T k a) k a
+abbrev pub raw : ℕ → ℕ → List ℕ → Bool
+raw T k a = depends Reads Write T k a
 
-unfoldable pub war : ℕ → ℕ → List ℕ → Bool
-war T k a = hit (readMarks T) (storesOf T k a) k a
+abbrev pub war : ℕ → ℕ → List ℕ → Bool
+war T k a = depends Stores Read T k a
 
 -- the table after stores, in their order
 unfoldable pub storeAll : List ℕ → List ℕ → List ℕ → List ℕ
 storeAll [] vs t = t
 storeAll (c ∷ cs) [] t = t
 storeAll (c ∷ cs) (v ∷ vs) t = storeAll cs vs (set t c v)
+
+-- of the cells and the values that stand at two places; and of program k's own
+abbrev pub storedBy : (cells values count : ℕ) → List ℕ → List ℕ → List ℕ
+storedBy cells values count a t = storeAll (words cells count a) (words values count a) t
+
+abbrev pub committed : ℕ → ℕ → List ℕ → List ℕ → List ℕ
+committed T k a t = storeAll (storesOf T k a) (valuesOf T k a) t

@@ -1,35 +1,63 @@
 // The work area: where its words lie, its checks, and what its marks say (document 01, "The work area").
 ghost use mathlib.Core.Path.{_≡_};
-ghost use Prim.Native.Nat.{_+_, _<_, _≤_};
+ghost use mathlib.Core.Bool.{cond};
+ghost use Prim.Native.Nat.{_+_, _^_, _<_, _≤_};
 ghost use lib.ListN.{length};
 ghost use Rattle.base.specs.Words.{words};
+ghost use Rattle.base.specs.Masks.{maskOf, wordBits};
 ghost use Rattle.image.specs.Limits.{maxPrograms, maxCells};
-ghost use Rattle.slot.specs.Layout.{slotWords};
-ghost use Rattle.area.specs.Layout.{areaWords, writeMarks, readMarks, slotStart, readsOf, storesOf, valuesOf, stateOf, withState};
-ghost use Rattle.area.specs.Marks.{lower, reserve, earlier, hit, waw, raw, war, storeAll};
-ghost use Rattle.area.specs.Checks.{marksGood, cellsGood, slotGood, slotsGood, wordsGood, roomRefusal, areaRefusal, openRefusal, callRefusal, noneWaits, allEnded, Slotted, Names, Stores};
+ghost use Rattle.area.specs.Layout.{areaWords, marksAt, slotStart, spanOf, listOf, stateOf, inGroup, withState};
+ghost use Rattle.area.specs.Marks.{lower, reserve, earlier, hit, depends, storedBy, committed};
+ghost use Rattle.area.specs.Checks.{tableGood, allBelow, listGood, slotGood, slotsGood, wordsGood, statesFrom};
+ghost use Rattle.area.specs.Checks.{roomRefusal, openRefusal, callRefusal, endedRefusal, Measured, Lies, Slotted, Names, Storing};
 
-// Where the write marks begin.
-pub fn write_marks(cells: usize) -> usize
-    ensures { λ r. ⌜ r ≡ writeMarks cells ⌝ }
-{
-    0
+// The kinds of marks: who stores a cell, and who reads it.
+pub enum MarkKind {
+    Write,
+    Read,
 }
 
-// Where the read marks begin.
-pub fn read_marks(cells: usize) -> usize
-    requires { ⌜ cells ≤ maxCells ⌝ }
-    ensures { λ r. ⌜ r ≡ readMarks cells ⌝ }
+// Where the marks of a kind begin.
+fn marks_start(marks: MarkKind, cells: usize) -> usize
+    ensures { λ r. ⌜ r ≡ marksAt marks cells ⌝ }
 {
-    cells
+    match marks {
+        MarkKind::Write => 0,
+        MarkKind::Read => cells,
+    }
 }
 
 // Where slot `number` begins; an area of n programs ends where slot n would.
 pub fn slot_start(cells: usize, number: usize) -> usize
-    requires { ⌜ (cells ≤ maxCells) × (number ≤ maxPrograms) ⌝ }
+    requires { ⌜ (cells < 65536) × (number < 65536) ⌝ }
     ensures { λ r. ⌜ r ≡ slotStart cells number ⌝ }
 {
     2 * cells + slot::WORDS * number
+}
+
+// How many words an area has.
+pub fn area_words(cells: u16, programs: u16) -> usize
+    ensures { λ r. ⌜ r ≡ areaWords cells programs ⌝ }
+{
+    slot_start(cells as usize, programs as usize)
+}
+
+// Where a list lies, and how many cells it counts.
+pub struct Span {
+    pub at: usize,
+    pub count: usize,
+}
+
+// Where a program's list of a kind lies, and how many cells it counts.
+pub fn span_of(area: &[u32], cells: usize, number: usize, list: slot::ListKind) -> Span
+    requires { ⌜ Lies cells number (now area) ⌝ }
+    ensures { λ r. ⌜ r ≡ spanOf list cells number (now (area .entry)) ⌝ }
+{
+    let start = slot_start(cells, number);
+    let counted = start + slot::count_word(list);
+    let at = start + slot::first_word(list);
+    let count = area[counted] as usize;
+    Span { at, count }
 }
 
 // A mark that is 0 or larger becomes k.
@@ -46,7 +74,7 @@ fn lowered(m: u32, k: u32) -> u32
 }
 
 // The program reserves each cell of the list of count words at a place, in the marks that begin at `marks`.
-fn reserve(area: &mut [u32], marks: usize, at: usize, count: usize, number: usize)
+fn reserve_cells(area: &mut [u32], marks: usize, at: usize, count: usize, number: usize)
     requires { ⌜ Names marks at count (now area) × (number < maxPrograms) ⌝ }
     ensures { λ _. ⌜ now (area .exit) ≡ reserve marks (words at count (now (area .entry))) number (now (area .entry)) ⌝ }
 {
@@ -87,8 +115,8 @@ fn hit(area: &[u32], marks: usize, at: usize, count: usize, number: usize) -> bo
 
 // The stores of the list go into the table.
 fn store_all(table: &mut [u32], area: &[u32], cells: usize, values: usize, count: usize)
-    requires { ⌜ Stores cells values count (now area) (now table) ⌝ }
-    ensures { λ _. ⌜ now (table .exit) ≡ storeAll (words cells count (now (area .entry))) (words values count (now (area .entry))) (now (table .entry)) ⌝ }
+    requires { ⌜ Storing cells values count (now area) (now table) ⌝ }
+    ensures { λ _. ⌜ now (table .exit) ≡ storedBy cells values count (now (area .entry)) (now (table .entry)) ⌝ }
 {
     let mut i = 0;
     while i < count {
@@ -98,69 +126,43 @@ fn store_all(table: &mut [u32], area: &[u32], cells: usize, values: usize, count
     }
 }
 
-// WAW: a stored cell's write mark names an earlier program.
-pub fn waw(area: &[u32], cells: usize, number: usize) -> bool
+// Whether some cell of the program's list of a kind has a mark of a kind that names an earlier program.
+pub fn depends(
+    area: &[u32],
+    cells: usize,
+    number: usize,
+    list: slot::ListKind,
+    marks: MarkKind,
+) -> bool
     requires { ⌜ Slotted cells number (now area) ⌝ }
-    ensures { λ r. ⌜ r ≡ waw cells number (now (area .entry)) ⌝ }
+    ensures { λ r. ⌜ r ≡ depends list marks cells number (now (area .entry)) ⌝ }
 {
-    let at = slot_start(cells, number);
-    let count = area[at + slot::STORE_COUNT] as usize;
-    hit(area, write_marks(cells), at + slot::STORES, count, number)
+    let s = span_of(area, cells, number, list);
+    hit(area, marks_start(marks, cells), s.at, s.count, number)
 }
 
-// RAW: a read cell's write mark does.
-pub fn raw(area: &[u32], cells: usize, number: usize) -> bool
+// The program reserves the cells of its list of a kind in the marks of a kind.
+pub fn reserve(area: &mut [u32], cells: usize, number: usize, list: slot::ListKind, marks: MarkKind)
     requires { ⌜ Slotted cells number (now area) ⌝ }
-    ensures { λ r. ⌜ r ≡ raw cells number (now (area .entry)) ⌝ }
+    ensures { λ _. ⌜ now (area .exit) ≡ reserve (marksAt marks cells) (listOf list cells number (now (area .entry))) number (now (area .entry)) ⌝ }
 {
-    let at = slot_start(cells, number);
-    let count = area[at + slot::READ_COUNT] as usize;
-    hit(area, write_marks(cells), at + slot::READS, count, number)
-}
-
-// WAR: a stored cell's read mark does.
-pub fn war(area: &[u32], cells: usize, number: usize) -> bool
-    requires { ⌜ Slotted cells number (now area) ⌝ }
-    ensures { λ r. ⌜ r ≡ war cells number (now (area .entry)) ⌝ }
-{
-    let at = slot_start(cells, number);
-    let count = area[at + slot::STORE_COUNT] as usize;
-    hit(area, read_marks(cells), at + slot::STORES, count, number)
-}
-
-// The program reserves the cells that it stores.
-pub fn reserve_stores(area: &mut [u32], cells: usize, number: usize)
-    requires { ⌜ Slotted cells number (now area) ⌝ }
-    ensures { λ _. ⌜ now (area .exit) ≡ reserve (writeMarks cells) (storesOf cells number (now (area .entry))) number (now (area .entry)) ⌝ }
-{
-    let at = slot_start(cells, number);
-    let count = area[at + slot::STORE_COUNT] as usize;
-    reserve(area, write_marks(cells), at + slot::STORES, count, number);
-}
-
-// The program reserves the cells that it reads.
-pub fn reserve_reads(area: &mut [u32], cells: usize, number: usize)
-    requires { ⌜ Slotted cells number (now area) ⌝ }
-    ensures { λ _. ⌜ now (area .exit) ≡ reserve (readMarks cells) (readsOf cells number (now (area .entry))) number (now (area .entry)) ⌝ }
-{
-    let at = slot_start(cells, number);
-    let count = area[at + slot::READ_COUNT] as usize;
-    reserve(area, read_marks(cells), at + slot::READS, count, number);
+    let s = span_of(area, cells, number, list);
+    reserve_cells(area, marks_start(marks, cells), s.at, s.count, number);
 }
 
 // The program's stores go into the table.
 pub fn commit(table: &mut [u32], area: &[u32], number: usize)
     requires { ⌜ Slotted (length (now table)) number (now area) ⌝ }
-    ensures { λ _. ⌜ now (table .exit) ≡ storeAll (storesOf (length (now (table .entry))) number (now (area .entry))) (valuesOf (length (now (table .entry))) number (now (area .entry))) (now (table .entry)) ⌝ }
+    ensures { λ _. ⌜ now (table .exit) ≡ committed (length (now (table .entry))) number (now (area .entry)) (now (table .entry)) ⌝ }
 {
-    let at = slot_start(table.len(), number);
-    let count = area[at + slot::STORE_COUNT] as usize;
-    store_all(table, area, at + slot::STORES, at + slot::VALUES, count);
+    let s = span_of(area, table.len(), number, slot::ListKind::Stores);
+    let values = slot_start(table.len(), number) + slot::VALUES;
+    store_all(table, area, s.at, values, s.count);
 }
 
 // The program's state and detail are these.
 pub fn write_state(area: &mut [u32], cells: usize, number: usize, state: u32, detail: u32)
-    requires { ⌜ Slotted cells number (now area) ⌝ }
+    requires { ⌜ Lies cells number (now area) ⌝ }
     ensures { λ _. ⌜ now (area .exit) ≡ withState cells number state detail (now (area .entry)) ⌝ }
 {
     let at = slot_start(cells, number);
@@ -170,65 +172,102 @@ pub fn write_state(area: &mut [u32], cells: usize, number: usize, state: u32, de
 
 // The program's state.
 pub fn state(area: &[u32], cells: usize, number: usize) -> u32
-    requires { ⌜ (cells ≤ maxCells) × (number < maxPrograms) × (slotStart cells number + slotWords ≤ length (now area)) ⌝ }
+    requires { ⌜ Lies cells number (now area) ⌝ }
     ensures { λ r. ⌜ r ≡ stateOf cells number (now (area .entry)) ⌝ }
 {
     let at = slot_start(cells, number);
     area[at]
 }
 
-// Check 7: whether each of the marks that begin at a place is at most n.
-fn marks_good(area: &[u32], at: usize, cells: usize, n: usize) -> bool
-    requires { ⌜ at + cells ≤ length (now area) ⌝ }
-    ensures { λ r. ⌜ r ≡ marksGood at cells n (now (area .entry)) ⌝ }
+// Whether none of n programs has a state below this one.
+pub fn states_from(area: &[u32], cells: usize, n: usize, least: u32) -> bool
+    requires { ⌜ Measured cells n (now area) ⌝ }
+    ensures { λ r. ⌜ r ≡ statesFrom least cells n (now (area .entry)) ⌝ }
 {
-    for c in 0..cells {
-        if n < area[at + c] as usize {
+    for k in 0..n {
+        if state(area, cells, k) < least {
             return false;
         }
     }
     true
 }
 
-// Whether each of count words from a place on is a cell of the table.
-fn cells_good(area: &[u32], cells: usize, at: usize, count: usize) -> bool
+// The mask with bit j set or left.
+fn with_bit(mask: u64, j: usize, set: bool) -> u64
+    requires { ⌜ (j < wordBits) × (mask < 2 ^ j) ⌝ }
+    ensures { λ r. ⌜ r ≡ mask + cond set (2 ^ j) 0 ⌝ }
+{
+    if set {
+        return mask | 1 << j;
+    }
+    mask
+}
+
+// The programs of a group, a bit each.
+pub fn members(area: &[u32], cells: usize, n: usize, group: slot::Group) -> u64
+    requires { ⌜ Measured cells n (now area) ⌝ }
+    ensures { λ r. ⌜ r ≡ maskOf (inGroup group cells (now (area .entry))) n ⌝ }
+{
+    let mut mask: u64 = 0;
+    for k in 0..n {
+        let state = state(area, cells, k);
+        mask = with_bit(mask, k, slot::is_in(group, state));
+    }
+    mask
+}
+
+// Check 5.
+fn table_good(table: &[u32]) -> bool
+    ensures { λ r. ⌜ r ≡ tableGood (now (table .entry)) ⌝ }
+{
+    if table.len() < image::Image::LEAST_CELLS {
+        return false;
+    }
+    table.len() <= image::Image::CELLS
+}
+
+// Whether each of count words from a place on is below a bound.
+fn all_below(area: &[u32], bound: usize, at: usize, count: usize) -> bool
     requires { ⌜ at + count ≤ length (now area) ⌝ }
-    ensures { λ r. ⌜ r ≡ cellsGood cells at count (now (area .entry)) ⌝ }
+    ensures { λ r. ⌜ r ≡ allBelow bound at count (now (area .entry)) ⌝ }
 {
     for i in 0..count {
-        if cells <= area[at + i] as usize {
+        if bound <= area[at + i] as usize {
             return false;
         }
     }
     true
 }
 
-// Whether state, counts and counted cells of slot k are good.
-fn slot_good(area: &[u32], cells: usize, k: usize) -> bool
-    requires { ⌜ (cells ≤ maxCells) × (k < maxPrograms) × (slotStart cells k + slotWords ≤ length (now area)) ⌝ }
-    ensures { λ r. ⌜ r ≡ slotGood cells k (now (area .entry)) ⌝ }
+// Check 7 of a list of slot k: its count, and the cells that it counts.
+fn list_good(area: &[u32], cells: usize, k: usize, list: slot::ListKind) -> bool
+    requires { ⌜ Lies cells k (now area) ⌝ }
+    ensures { λ r. ⌜ r ≡ listGood list cells k (now (area .entry)) ⌝ }
 {
-    let at = slot_start(cells, k);
-    if slot::CARRIED < area[at] {
+    let s = span_of(area, cells, k, list);
+    if slot::LIST < s.count {
         return false;
     }
-    let reads = area[at + slot::READ_COUNT] as usize;
-    if slot::LIST < reads {
-        return false;
-    }
-    let stores = area[at + slot::STORE_COUNT] as usize;
-    if slot::LIST < stores {
-        return false;
-    }
-    if !cells_good(area, cells, at + slot::READS, reads) {
-        return false;
-    }
-    cells_good(area, cells, at + slot::STORES, stores)
+    all_below(area, cells, s.at, s.count)
 }
 
-// Whether every slot is.
+// Check 7 of slot k.
+fn slot_good(area: &[u32], cells: usize, k: usize) -> bool
+    requires { ⌜ Lies cells k (now area) ⌝ }
+    ensures { λ r. ⌜ r ≡ slotGood cells k (now (area .entry)) ⌝ }
+{
+    if slot::LAST_STATE < state(area, cells, k) {
+        return false;
+    }
+    if !list_good(area, cells, k, slot::ListKind::Reads) {
+        return false;
+    }
+    list_good(area, cells, k, slot::ListKind::Stores)
+}
+
+// And of every slot.
 fn slots_good(area: &[u32], cells: usize, n: usize) -> bool
-    requires { ⌜ (cells ≤ maxCells) × (n ≤ maxPrograms) × (length (now area) ≡ areaWords cells n) ⌝ }
+    requires { ⌜ Measured cells n (now area) ⌝ }
     ensures { λ r. ⌜ r ≡ slotsGood cells n (now (area .entry)) ⌝ }
 {
     for k in 0..n {
@@ -241,95 +280,67 @@ fn slots_good(area: &[u32], cells: usize, n: usize) -> bool
 
 // Check 7.
 fn words_good(area: &[u32], cells: usize, n: usize) -> bool
-    requires { ⌜ (cells ≤ maxCells) × (n ≤ maxPrograms) × (length (now area) ≡ areaWords cells n) ⌝ }
+    requires { ⌜ Measured cells n (now area) ⌝ }
     ensures { λ r. ⌜ r ≡ wordsGood cells n (now (area .entry)) ⌝ }
 {
-    if !marks_good(area, write_marks(cells), cells, n) {
+    if !all_below(area, n + 1, marks_start(MarkKind::Write, cells), cells) {
         return false;
     }
-    if !marks_good(area, read_marks(cells), cells, n) {
+    if !all_below(area, n + 1, marks_start(MarkKind::Read, cells), cells) {
         return false;
     }
     slots_good(area, cells, n)
 }
 
-// Checks 5 and 6 for n programs: the number of the first that fails, or 0.
-fn room_refusal(n: usize, table: &[u32], area: &[u32]) -> u32
+// Checks 5 and 6, for n programs.
+fn room_refusal(n: usize, table: &[u32], area: &[u32]) -> image::Refusal
     requires { ⌜ n ≤ maxPrograms ⌝ }
     ensures { λ r. ⌜ r ≡ roomRefusal n (now (table .entry)) (now (area .entry)) ⌝ }
 {
-    let cells = table.len();
-    if cells < image::Image::LEAST_CELLS {
-        return image::Refusal::TABLE;
+    if !table_good(table) {
+        return image::Refusal::TABLE_SIZE;
     }
-    if image::Image::CELLS < cells {
-        return image::Refusal::TABLE;
-    }
-    if area.len() != slot_start(cells, n) {
+    if area.len() != slot_start(table.len(), n) {
         return image::Refusal::AREA_SIZE;
     }
-    0
-}
-
-// Checks 5, 6 and 7.
-fn area_refusal(n: usize, table: &[u32], area: &[u32]) -> u32
-    requires { ⌜ n ≤ maxPrograms ⌝ }
-    ensures { λ r. ⌜ r ≡ areaRefusal n (now (table .entry)) (now (area .entry)) ⌝ }
-{
-    let refused = room_refusal(n, table, area);
-    if refused != 0 {
-        return refused;
-    }
-    if !words_good(area, table.len(), n) {
-        return image::Refusal::AREA;
-    }
-    0
+    image::Refusal::NONE
 }
 
 // Checks 1 to 6.
-pub fn open_refusal(image: &[u8], table: &[u32], area: &[u32]) -> u32
+pub fn open_refusal(image: &[u8], table: &[u32], area: &[u32]) -> image::Refusal
     ensures { λ r. ⌜ r ≡ openRefusal (now (image .entry)) (now (table .entry)) (now (area .entry)) ⌝ }
 {
     let refused = image::image_refusal(image);
-    if refused != 0 {
+    if refused.number != 0 {
         return refused;
     }
     room_refusal(image::count(image), table, area)
 }
 
 // Checks 1 to 7.
-pub fn call_refusal(image: &[u8], table: &[u32], area: &[u32]) -> u32
+pub fn call_refusal(image: &[u8], table: &[u32], area: &[u32]) -> image::Refusal
     ensures { λ r. ⌜ r ≡ callRefusal (now (image .entry)) (now (table .entry)) (now (area .entry)) ⌝ }
 {
-    let refused = image::image_refusal(image);
-    if refused != 0 {
+    let refused = open_refusal(image, table, area);
+    if refused.number != 0 {
         return refused;
     }
-    area_refusal(image::count(image), table, area)
+    if !words_good(area, table.len(), image::count(image)) {
+        return image::Refusal::AREA;
+    }
+    image::Refusal::NONE
 }
 
-// Check 9 at settling: whether no program of n waits.
-pub fn none_waits(area: &[u32], cells: usize, n: usize) -> bool
-    requires { ⌜ (cells ≤ maxCells) × (n ≤ maxPrograms) × (length (now area) ≡ areaWords cells n) ⌝ }
-    ensures { λ r. ⌜ r ≡ noneWaits cells n (now (area .entry)) ⌝ }
+// Checks 1 to 7, and 9 as the listed order and the next image make it.
+pub fn ended_refusal(image: &[u8], table: &[u32], area: &[u32]) -> image::Refusal
+    ensures { λ r. ⌜ r ≡ endedRefusal (now (image .entry)) (now (table .entry)) (now (area .entry)) ⌝ }
 {
-    for k in 0..n {
-        if state(area, cells, k) == slot::WAITING {
-            return false;
-        }
+    let refused = call_refusal(image, table, area);
+    if refused.number != 0 {
+        return refused;
     }
-    true
-}
-
-// Check 9 at the listed order and the next image: whether no program of n waits or is gathered.
-pub fn all_ended(area: &[u32], cells: usize, n: usize) -> bool
-    requires { ⌜ (cells ≤ maxCells) × (n ≤ maxPrograms) × (length (now area) ≡ areaWords cells n) ⌝ }
-    ensures { λ r. ⌜ r ≡ allEnded cells n (now (area .entry)) ⌝ }
-{
-    for k in 0..n {
-        if !slot::is_end(state(area, cells, k)) {
-            return false;
-        }
+    if !states_from(area, table.len(), image::count(image), slot::FIRST_END) {
+        return image::Refusal::STATE;
     }
-    true
+    image::Refusal::NONE
 }

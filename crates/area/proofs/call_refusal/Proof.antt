@@ -1,33 +1,54 @@
--- The image's own refusal comes first; an image that is not refused has few enough programs for the other checks. Assumes nothing.
-use mathlib.Core.Path.{sym, _∙_}
-use native.Mathlib.Omega.{arith}
+-- The checks before come first; what they have shown lets the words be looked at. Assumes nothing.
+use mathlib.Core.Path.{_≡_, refl, sym, _∙_}
+use denote.Ref.{now}
+use Rattle.image.specs.Image.{countOf}
+use Rattle.image.proofs.Refusing.{refuses, accepts, first-refuses, first-passes, number-of}
+use Rattle.area.specs.Checks.{openRefusal, callRefusal, wordsGood}
+use lib.ListN.{length}
+use Rattle.area.proofs.Checks.{room-measured}
 use borrow.Author.Needs.{needs}
-use Rattle.area.proofs.Checks.{few, call-image, call-area}
 use Rattle.area.proofs.call_refusal.Statement.{statement}
 use Rattle.area.proofs.call_refusal.Tie as tie
 
-image-refusal-requires : tie.Need-image-refusal-requires
-image-refusal-requires c κs = search needs
+abbrev start : tie.Else1 → tie.Start
+start c = c .before .before .before .before .before .before
+
+abbrev first-of : tie.After-words-good → tie.Else1
+first-of c = c .before .before
+
+passed : (c : tie.Else1) → let a = start c .args in openRefusal (a .image .now) (a .table .now) (a .area .now) .number ≡ 0
+passed c = number-of (sym (c .before .before .open-refusal .ensures)) ∙ c .if1 .left
+
+looked : (c : tie.After-words-good)
+    → let a = start (first-of c) .args in c .words-good .result ≡ wordsGood (length (a .table .now)) (countOf (a .image .now)) (a .area .now)
+looked c = rw (← c .before .count .ensures .0) (c .words-good .ensures)
+
+open-refusal-requires : tie.Need-open-refusal-requires
+open-refusal-requires c κs = search needs
 
 returns : tie.Need-returns
-returns c =
-    let e = c .before .image-refusal .ensures in
-    e ∙ sym (call-image _ _ _ (λ z. c .if1 .taken (e ∙ z)))
+unfolding callRefusal
+returns c = first-refuses _ (c .before .before .open-refusal .ensures) (c .if1 .taken)
 
 count-requires : tie.Need-count-requires
 count-requires c κs = search needs
 
-area-refusal-requires : tie.Need-area-refusal-requires
-area-refusal-requires c κs =
-    let e = c .before .before .image-refusal .ensures in
-    omega (arith, c .count .ensures .0, few _ (sym e ∙ c .before .if1 .left))
+words-good-requires : tie.Need-words-good-requires
+words-good-requires c κs = room-measured _ _ _ (passed (c .before)) _ (c .count .ensures .0)
 
 returns-2 : tie.Need-returns-2
+unfolding callRefusal
 returns-2 c =
-    rw (call-area _ _ _ (sym (c .before .before .before .image-refusal .ensures) ∙ c .before .before .if1 .left), ← c .before .count .ensures .0)
-    (c .area-refusal .ensures)
+    let p = first-of (c .before) in
+    first-passes (p .before .before .open-refusal .ensures) (p .if1 .left) (refuses _ (looked (c .before)) (c .if2 .taken))
+
+returns-3 : tie.Need-returns-3
+unfolding callRefusal
+returns-3 c =
+    let p = first-of (c .before) in
+    first-passes (p .before .before .open-refusal .ensures) (p .if1 .left) (accepts _ (looked (c .before)) (c .if2 .left) refl)
 
 pub call-refusal-spec : {M : Type 1} → statement M
 call-refusal-spec =
     tie.close
-    (tie.spec image-refusal-requires returns count-requires area-refusal-requires returns-2)
+    (tie.spec open-refusal-requires returns count-requires words-good-requires returns-2 returns-3)

@@ -1,54 +1,44 @@
--- The count is read out of the slot, and `store_all` goes through the two lists that it counts: the program's stored cells and values. Assumes nothing.
-use mathlib.Core.Path.{refl}
-use Prim.Native.Nat.{_+_}
+-- The stored cells and their values are found in the slot; then the loop stores. Assumes nothing.
+use mathlib.Core.Path.{_≡_}
 use native.Mathlib.Omega.{arith}
+use Rattle.area.proofs.Places.{by-stores, stores-list}
 use borrow.Author.Needs.{needs}
-use Rattle.slot.specs.Layout.{storeCount}
-use Rattle.area.proofs.Places.{by-values, stores-table}
 use Rattle.area.proofs.commit.Statement.{statement}
 use Rattle.area.proofs.commit.Tie as tie
+
+span-of-requires : tie.Need-span-of-requires
+span-of-requires c κs = search needs
 
 slot-start-requires : tie.Need-slot-start-requires
 slot-start-requires c κs = search needs
 
-add-count : tie.Need-add-count
-add-count c = search needs
-
-mul-count : tie.Need-mul-count
-mul-count c = search needs
-
-shared-slice-read-count : tie.Need-shared-slice-read-count
-shared-slice-read-count c = search needs
-
-cast-count : tie.Need-cast-count
-cast-count c = omega (arith, c .shared-slice-known2 .given (c .before .slot-start .result + storeCount))
-
-add-store-all : tie.Need-add-store-all
-add-store-all c = search needs
-
-add-store-all-2 : tie.Need-add-store-all-2
-add-store-all-2 c = search needs
+add-values : tie.Need-add-values
+add-values c = search needs
 
 store-all-requires : tie.Need-store-all-requires
-store-all-requires c κs = stores-table _ _ _ _ (c .before .before .slot-start .ensures) (c .before .before .before .before .before .pre) _ refl
+store-all-requires c κs =
+    let s = c .before .before in
+    let b = s .before .before .before in
+    let q = c .before .slot-start .ensures in
+    stores-list _ _ _ _ (s .span-of .ensures) _ (omega (arith, q)) (b .pre)
 
 same-length : tie.Need-same-length
 same-length c = search needs
 
 returns : tie.Need-returns
-returns c = by-values _ _ _ _ (c .before .before .before .before .before .slot-start .ensures) _ _ (c .before .before .store-all .ensures)
+returns c =
+    let r = c .before .before in
+    let v = r .before .before in
+    let s = v .before in
+    by-stores _ _ _ _ (s .span-of .ensures) _ (omega (arith, v .slot-start .ensures)) _ (r .store-all .ensures)
 
 pub commit-spec : {M : Type 1} → statement M
 commit-spec =
     tie.close
     (tie.spec
+    span-of-requires
     slot-start-requires
-    add-count
-    mul-count
-    shared-slice-read-count
-    cast-count
-    add-store-all
-    add-store-all-2
+    add-values
     store-all-requires
     same-length
     returns)

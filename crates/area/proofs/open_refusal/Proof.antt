@@ -1,8 +1,12 @@
--- The image's own refusal comes first; an image that is not refused has few enough programs for the other checks. Assumes nothing.
-use mathlib.Core.Path.{sym, _∙_}
+-- The image's own checks go first; an image that passes has few programs. Assumes nothing.
+use mathlib.Core.Path.{_≡_, sym, _∙_}
 use native.Mathlib.Omega.{arith}
+use denote.Ref.{now}
+use Rattle.image.specs.Image.{refusalOf}
+use Rattle.image.proofs.Refusing.{first-refuses, first-passes, number-of}
+use Rattle.area.specs.Checks.{openRefusal, roomRefusal}
+use Rattle.area.proofs.Checks.{few}
 use borrow.Author.Needs.{needs}
-use Rattle.area.proofs.Checks.{few, open-image, open-room}
 use Rattle.area.proofs.open_refusal.Statement.{statement}
 use Rattle.area.proofs.open_refusal.Tie as tie
 
@@ -10,22 +14,24 @@ image-refusal-requires : tie.Need-image-refusal-requires
 image-refusal-requires c κs = search needs
 
 returns : tie.Need-returns
-returns c =
-    let e = c .before .image-refusal .ensures in
-    e ∙ sym (open-image _ _ _ (λ z. c .if1 .taken (e ∙ z)))
+unfolding openRefusal
+returns c = first-refuses _ (c .before .before .image-refusal .ensures) (c .if1 .taken)
 
 count-requires : tie.Need-count-requires
 count-requires c κs = search needs
 
 room-refusal-requires : tie.Need-room-refusal-requires
 room-refusal-requires c κs =
-    let e = c .before .before .image-refusal .ensures in
-    omega (arith, c .count .ensures .0, few _ (sym e ∙ c .before .if1 .left))
+    let r = c .before .before .before .image-refusal .ensures in
+    let h = few _ (number-of (sym r) ∙ c .before .if1 .left) in
+    omega (arith, h, c .count .ensures .0)
 
 returns-2 : tie.Need-returns-2
+unfolding openRefusal
 returns-2 c =
-    rw (open-room _ _ _ (sym (c .before .before .before .image-refusal .ensures) ∙ c .before .before .if1 .left), ← c .before .count .ensures .0)
-    (c .room-refusal .ensures)
+    let n = c .before in
+    first-passes (n .before .before .before .image-refusal .ensures) (n .before .if1 .left)
+    (rw (← n .count .ensures .0) (c .room-refusal .ensures))
 
 pub open-refusal-spec : {M : Type 1} → statement M
 open-refusal-spec =

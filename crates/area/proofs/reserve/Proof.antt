@@ -1,105 +1,34 @@
--- The loop's invariant: reserving the cells that are left, in the area as it is, gives the whole, and the list stays as it was. The measure is how
--- many cells are left. Assumes nothing.
-use Prim.Native.Nat.{_+_, _-_, _<_}
-use native.Mathlib.Omega.{arith}
-use lib.ListN.{getD}
+-- The list and the marks are found by their kinds; then the loop reserves. Assumes nothing.
+use Rattle.area.specs.Marks.{reserve}
+use Rattle.area.proofs.Places.{by-span, names-list}
 use borrow.Author.Needs.{needs}
-use Rattle.area.proofs.Loops.{Reserving, reserving-start, mark-there, reserving-next, reserving-end}
 use Rattle.area.proofs.reserve.Statement.{statement}
 use Rattle.area.proofs.reserve.Tie as tie
 
-abbrev Inv-loop : tie.InvT-loop
-Inv-loop area₀ marks at count number i₀ area i = Reserving marks at count number area₀ i area
+span-of-requires : tie.Need-span-of-requires
+span-of-requires c κs = search needs
 
-abbrev μ-loop : tie.MeasureT-loop
-μ-loop area₀ marks at count number i₀ area i = count - i
+marks-start-requires : tie.Need-marks-start-requires
+marks-start-requires c κs = search needs
 
--- the mark of the cell that the loop looks at lies before the list
-there : (c : tie.In-loop Inv-loop μ-loop)
-    → let a = c .before .before .before .args in a .marks + getD (c .before .loop .area) (a .at + c .before .loop .i) 0 < a .at
-there c = mark-there _ _ _ _ _ (c .before .before .before .pre .0) _ _ (c .before .loop .inv) (c .loop-test .taken)
+reserve-cells-requires : tie.Need-reserve-cells-requires
+reserve-cells-requires c κs =
+    let s = c .before .before in
+    let b = s .before .before .before in
+    (names-list _ _ _ (b .args .list) _ (s .span-of .ensures) (b .pre) (b .args .marks) _ (c .marks-start .ensures), b .pre .lies .number-few)
 
-loop-holds : tie.Need-loop-holds Inv-loop μ-loop
-loop-holds c = reserving-start _ _ _ _ _
+same-length : tie.Need-same-length
+same-length c = search needs
 
-add-c : tie.Need-add-c Inv-loop μ-loop
-add-c c = search needs
-
-mul-c : tie.Need-mul-c Inv-loop μ-loop
-mul-c c = search needs
-
-slice-read-c : tie.Need-slice-read-c Inv-loop μ-loop
-slice-read-c c = search needs
-
-cast-c : tie.Need-cast-c Inv-loop μ-loop
-cast-c c = omega (arith, c .slice-known2 .given (c .before .before .before .before .args .at + c .before .before .loop .i))
-
-add-m : tie.Need-add-m Inv-loop μ-loop
-add-m c = omega (arith, there (c .before))
-
-mul-m : tie.Need-mul-m Inv-loop μ-loop
-mul-m c = omega (arith, there (c .before))
-
-slice-read-m : tie.Need-slice-read-m Inv-loop μ-loop
-slice-read-m c = omega (arith, there (c .before .before))
-
-add-lowered : tie.Need-add-lowered Inv-loop μ-loop
-add-lowered c = search needs
-
-cast-lowered : tie.Need-cast-lowered Inv-loop μ-loop
-cast-lowered c = search needs
-
-lowered-requires : tie.Need-lowered-requires Inv-loop μ-loop
-lowered-requires c κs = search needs
-
-add-area : tie.Need-add-area Inv-loop μ-loop
-add-area c = omega (arith, there (c .before .before .before))
-
-mul-area : tie.Need-mul-area Inv-loop μ-loop
-mul-area c = omega (arith, there (c .before .before .before))
-
-slice-write-area : tie.Need-slice-write-area Inv-loop μ-loop
-slice-write-area c = omega (arith, there (c .before .before .before))
-
-add-i : tie.Need-add-i Inv-loop μ-loop
-add-i c = search needs
-
-loop-less : tie.Need-loop-less Inv-loop μ-loop
-loop-less c = search needs
-
-loop-again : tie.Need-loop-again Inv-loop μ-loop
-loop-again c =
-    let t = c .before .before .before in
-    reserving-next _ _ _ _ _ (t .before .before .before .pre .0) _ _ (t .before .loop .inv) _ (t .loop-test .taken) (c .lowered .ensures)
-
-same-length : tie.Need-same-length Inv-loop μ-loop
-same-length c = c .before .loop .inv .sized
-
-returns : tie.Need-returns Inv-loop μ-loop
-returns c = reserving-end _ _ _ _ _ (c .before .before .before .pre .0) _ _ (c .before .loop .inv) (c .loop-test .left)
+returns : tie.Need-returns
+returns c =
+    let r = c .before .before in
+    let m = r .before in
+    let s = m .before .before in
+    let a = s .before .before .before .args in
+    by-span _ _ _ (a .list) _ (s .span-of .ensures) (λ m cs. reserve m cs (a .number) (a .area .now)) _ _ (m .marks-start .ensures) _ (r .reserve-cells .ensures)
 
 pub reserve-spec : {M : Type 1} → statement M
 reserve-spec =
     tie.close
-    (tie.spec
-    Inv-loop
-    μ-loop
-    loop-holds
-    add-c
-    mul-c
-    slice-read-c
-    cast-c
-    add-m
-    mul-m
-    slice-read-m
-    add-lowered
-    cast-lowered
-    lowered-requires
-    add-area
-    mul-area
-    slice-write-area
-    add-i
-    loop-less
-    loop-again
-    same-length
-    returns)
+    (tie.spec span-of-requires marks-start-requires reserve-cells-requires same-length returns)

@@ -8,6 +8,7 @@ use borrow.Author.Tests.{not-true, not-false}
 use Rattle.base.specs.Words.{every}
 use Rattle.base.proofs.Numbers.{every-none, every-more, every-false}
 use Rattle.area.specs.Checks.{slotGood, slotsGood}
+use Rattle.area.proofs.Checks.{measured-lies}
 use Rattle.area.proofs.slots_good.Statement.{statement}
 use Rattle.area.proofs.slots_good.Tie as tie
 
@@ -21,7 +22,7 @@ loop-holds : tie.Need-loop-holds Inv-loop μ-loop
 loop-holds c = (search needs, every-none _)
 
 slot-good-requires : tie.Need-slot-good-requires Inv-loop μ-loop
-slot-good-requires c κs = search needs
+slot-good-requires c κs = measured-lies _ _ _ (c .before .before .before .pre) _ (c .loop-test .taken)
 
 returns : tie.Need-returns Inv-loop μ-loop
 unfolding slotsGood

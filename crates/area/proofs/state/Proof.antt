@@ -1,9 +1,6 @@
--- The word that is read is the first of the slot. Assumes nothing.
-use mathlib.Core.Path.{ap}
-use Prim.Native.Nat.{ℕ}
-use lib.ListN.{getD}
-use borrow.Author.Needs.{needs}
+-- The slot begins with the state. Assumes nothing.
 use Rattle.area.specs.Layout.{stateOf}
+use borrow.Author.Needs.{needs}
 use Rattle.area.proofs.state.Statement.{statement}
 use Rattle.area.proofs.state.Tie as tie
 
@@ -18,7 +15,7 @@ shared-slice-read-result c = search needs
 
 returns : tie.Need-returns
 unfolding stateOf
-returns c = ap (λ (x : ℕ). getD (c .before .before .before .args .area .now) x 0) (c .before .slot-start .ensures)
+returns c = rw (c .before .slot-start .ensures)
 
 pub state-spec : {M : Type 1} → statement M
 state-spec = tie.close (tie.spec slot-start-requires mul-result shared-slice-read-result returns)

@@ -1,48 +1,52 @@
--- At each return the tests that led there are those of the definition. Assumes nothing.
-use mathlib.Core.Path.{_≡_, sym, ap, _∙_}
-use Prim.Native.Nat.{ℕ}
-use borrow.Author.Needs.{needs}
+-- The marks of each kind, then the slots; the first that fails decides. Assumes nothing.
+use mathlib.Core.Path.{_≡_, ap, sym, _∙_}
 use borrow.Author.Tests.{not-true, not-false}
-use Rattle.area.specs.Checks.{marksGood, wordsGood}
-use Rattle.area.specs.Layout.{writeMarks, readMarks}
+use Rattle.area.specs.declared.MarkKind.the-variants.{Write, Read}
+use Rattle.area.specs.Checks.{allBelow, marksGood, wordsGood}
+use Prim.Native.Nat.{ℕ, _+_}
+use borrow.Author.Needs.{needs}
 use Rattle.area.proofs.words_good.Statement.{statement}
 use Rattle.area.proofs.words_good.Tie as tie
 
--- what the two calls of `marks_good` have answered
-write-good : (c : tie.After-marks-good)
-    → let a = c .before .before .before .args in c .marks-good .result ≡ marksGood (writeMarks (a .cells)) (a .cells) (a .n) (a .area .now)
-write-good c = rw (← c .before .write-marks .ensures) (c .marks-good .ensures)
+abbrev start : tie.After-all-below → tie.Start
+start c = c .before .before .before
 
-read-good : (c : tie.After-marks-good2)
-    → let a = c .before .before .before .before .before .before .args in c .marks-good2 .result
-    ≡ marksGood (readMarks (a .cells)) (a .cells) (a .n) (a .area .now)
-read-good c =
-    let a = c .before .before .before .before .before .before .args in
-    c .marks-good2 .ensures ∙ ap (λ (m : ℕ). marksGood m (a .cells) (a .n) (a .area .now)) (c .before .read-marks .ensures)
+abbrev first : tie.After-all-below2 → tie.Else1
+first c = c .before .before
 
-write-marks-requires : tie.Need-write-marks-requires
-write-marks-requires c κs = search needs
+writes-are : (c : tie.After-all-below) → let a = start c .args in c .all-below .result ≡ marksGood Write (a .cells) (a .n) (a .area .now)
+writes-are c = let a = start c .args in c .all-below .ensures ∙ ap (λ (m : ℕ). allBelow (a .n + 1) m (a .cells) (a .area .now)) (c .before .marks-start .ensures)
 
-marks-good-requires : tie.Need-marks-good-requires
-marks-good-requires c κs = search needs
+reads-are : (c : tie.After-all-below2) → let a = start (first c .before) .args in c .all-below2 .result ≡ marksGood Read (a .cells) (a .n) (a .area .now)
+reads-are c =
+    let a = start (first c .before) .args in
+    c .all-below2 .ensures ∙ ap (λ (m : ℕ). allBelow (a .n + 1) m (a .cells) (a .area .now)) (c .before .marks-start2 .ensures)
+
+add-all-below : tie.Need-add-all-below
+add-all-below c = search needs
+
+marks-start-requires : tie.Need-marks-start-requires
+marks-start-requires c κs = search needs
+
+all-below-requires : tie.Need-all-below-requires
+all-below-requires c κs = search needs
 
 returns : tie.Need-returns
 unfolding wordsGood
-returns c = rw (sym (write-good (c .before)) ∙ not-true _ (c .if1 .taken))
+returns c = rw (sym (writes-are (c .before)) ∙ not-true _ (c .if1 .taken))
 
-read-marks-requires : tie.Need-read-marks-requires
-read-marks-requires c κs = search needs
+add-all-below-2 : tie.Need-add-all-below-2
+add-all-below-2 c = search needs
 
-marks-good-requires-2 : tie.Need-marks-good-requires-2
-marks-good-requires-2 c κs = search needs
+marks-start-requires-2 : tie.Need-marks-start-requires-2
+marks-start-requires-2 c κs = search needs
+
+all-below-requires-2 : tie.Need-all-below-requires-2
+all-below-requires-2 c κs = search needs
 
 returns-2 : tie.Need-returns-2
 unfolding wordsGood
-returns-2 c =
-    rw (
-      sym (write-good (c .before .before .before .before)) ∙ not-false _ (c .before .before .before .if1 .left),
-      sym (read-good (c .before)) ∙ not-true _ (c .if2 .taken),
-    )
+returns-2 c = rw (sym (writes-are (first (c .before) .before)) ∙ not-false _ (first (c .before) .if1 .left), sym (reads-are (c .before)) ∙ not-true _ (c .if2 .taken))
 
 slots-good-requires : tie.Need-slots-good-requires
 slots-good-requires c κs = search needs
@@ -50,21 +54,21 @@ slots-good-requires c κs = search needs
 returns-3 : tie.Need-returns-3
 unfolding wordsGood
 returns-3 c =
-    rw (
-      sym (write-good (c .before .before .before .before .before)) ∙ not-false _ (c .before .before .before .before .if1 .left),
-      sym (read-good (c .before .before)) ∙ not-false _ (c .before .if2 .left),
-      sym (c .slots-good .ensures),
-    )
+    let r = c .before in
+    rw (sym (writes-are (first (r .before) .before)) ∙ not-false _ (first (r .before) .if1 .left), sym (reads-are (r .before)) ∙ not-false _ (r .if2 .left))
+    (c .slots-good .ensures)
 
 pub words-good-spec : {M : Type 1} → statement M
 words-good-spec =
     tie.close
     (tie.spec
-    write-marks-requires
-    marks-good-requires
+    add-all-below
+    marks-start-requires
+    all-below-requires
     returns
-    read-marks-requires
-    marks-good-requires-2
+    add-all-below-2
+    marks-start-requires-2
+    all-below-requires-2
     returns-2
     slots-good-requires
     returns-3)

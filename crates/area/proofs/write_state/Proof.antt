@@ -1,11 +1,8 @@
--- The two stores are those of the definition, at the place where the slot begins. Assumes nothing.
-use mathlib.Core.Path.{ap}
-use Prim.Native.Nat.{ℕ, _+_}
+-- Two stores, where the slot begins and behind that. Assumes nothing.
 use native.Mathlib.Omega.{arith}
-use lib.ListN.{set, length-set}
-use borrow.Author.Needs.{needs}
-use Rattle.slot.specs.Layout.{detailWord}
+use lib.ListN.{length-set}
 use Rattle.area.specs.Layout.{withState}
+use borrow.Author.Needs.{needs}
 use Rattle.area.proofs.write_state.Statement.{statement}
 use Rattle.area.proofs.write_state.Tie as tie
 
@@ -25,16 +22,14 @@ mul-area-2 : tie.Need-mul-area-2
 mul-area-2 c = search needs
 
 slice-write-area-2 : tie.Need-slice-write-area-2
-slice-write-area-2 c = simp length-set (omega arith)
+slice-write-area-2 c = simp length-set (omega (arith, c .before .before .pre .lies, c .slot-start .ensures))
 
 same-length : tie.Need-same-length
-same-length c = simp length-set
+same-length c = search needs
 
 returns : tie.Need-returns
 unfolding withState
-returns c =
-    let a = c .before .before .args in
-    ap (λ (x : ℕ). set (set (a .area .now) x (a .state)) (x + detailWord) (a .detail)) (c .slot-start .ensures)
+returns c = rw (c .slot-start .ensures)
 
 pub write-state-spec : {M : Type 1} → statement M
 write-state-spec =
