@@ -24,7 +24,7 @@ use Rattle.machine.specs.declared.Run.{Run}
 use Rattle.machine.specs.declared.Run.the-variants.{Finished, Rejected, Faulted}
 use Rattle.machine.specs.Asks.{Ask, halt, move, fetch, put, start, written, passed, askAt}
 use Rattle.machine.specs.Runs.{Step, stop, next, loadFault, storeFault, perform, seen, Outcome, ended, since, follow, runFrom, runOf}
-use Rattle.machine.specs.Runs.{stateOfRun, detailOfRun, kept, slotOf, Runnable, logAfter}
+use Rattle.machine.specs.Runs.{stateOfRun, detailOfRun, kept, keptBy, slotOf, Runnable, logAfter}
 use Rattle.machine.proofs.Asked.{Under, under-none, under-append, under-one, under-set, word, Small, ask-small}
 
 -- ---- a turn and a run, by cases
@@ -247,13 +247,13 @@ module _ (p t : List ℕ) (bytes : (i : ℕ) → getD p i 0 < 256) (cells : (i :
 
 -- ---- the slot that a run leaves, and the log read back from it
 
-pub kept-fits : (T : ℕ) (r : Run) (l : Log) → Fits T l → Fits T (kept r l)
+kept-fits : (T : ℕ) (r : Run) (l : Log) → Fits T l → Fits T (kept r l)
 kept-fits T Finished l f = f
 kept-fits T (Rejected code) l f = empty-fits T
 kept-fits T (Faulted kind at) l f = empty-fits T
 
 module _ (p t : List ℕ) (short : length p ≤ maxProgramBytes) where
-  run-kept : Fits (length t) (kept (runOf p t .answer) (runOf p t .log))
+  pub run-kept : Fits (length t) (keptBy (runOf p t))
   run-kept = kept-fits (length t) (runOf p t .answer) (runOf p t .log) (run-fits p t short)
 
   pub slot-of-length : length (slotOf (runOf p t)) ≡ slotWords
@@ -268,7 +268,7 @@ module _ (p t : List ℕ) (short : length p ≤ maxProgramBytes) where
   unfolding slotOf
   slot-of-detail = layout-detail _ _ _
 
-  pub slot-of-log : logOf (slotOf (runOf p t)) ≡ kept (runOf p t .answer) (runOf p t .log)
+  pub slot-of-log : logOf (slotOf (runOf p t)) ≡ keptBy (runOf p t)
   unfolding slotOf
   slot-of-log = layout-log _ _ _ (length t) run-kept
 

@@ -105,8 +105,11 @@ keeps (Faulted kind at) = false
 abbrev pub kept : Run → Log → Log
 kept r l = cond (keeps r) l empty
 
+abbrev pub keptBy : Outcome → Log
+keptBy o = kept (o .answer) (o .log)
+
 unfoldable pub slotOf : Outcome → List ℕ
-slotOf o = layout (stateOfRun (o .answer)) (detailOfRun (o .answer)) (kept (o .answer) (o .log))
+slotOf o = layout (stateOfRun (o .answer)) (detailOfRun (o .answer)) (keptBy o)
 
 -- ---- what the functions need and leave
 

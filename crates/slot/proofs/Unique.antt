@@ -7,6 +7,8 @@ use lib.Seq.{ext-getD}
 use denote.Ref.{now}
 use Rattle.base.proofs.Unique.{Unique}
 use Rattle.slot.specs.Log.{Marked}
+use Rattle.slot.proofs.can_settle.Kinds as can-settle-kinds
+use Rattle.slot.proofs.can_settle.Reads as can-settle
 use Rattle.slot.proofs.is_in.Kinds as is-in-kinds
 use Rattle.slot.proofs.is_in.Reads as is-in
 use Rattle.slot.proofs.count_word.Kinds as count-word-kinds
@@ -21,6 +23,9 @@ use Rattle.slot.proofs.note_store.Kinds as note-store-kinds
 use Rattle.slot.proofs.note_store.Reads as note-store
 use Rattle.slot.proofs.note_read.Kinds as note-read-kinds
 use Rattle.slot.proofs.note_read.Reads as note-read
+
+pub can-settle-unique : Unique 0 can-settle-kinds.ps can-settle-kinds.r (λ κs x s. x) can-settle.Post
+can-settle-unique κs a x y s t p q = p ∙ sym q
 
 pub is-in-unique : Unique 0 is-in-kinds.ps is-in-kinds.r (λ κs x s. x) is-in.Post
 is-in-unique κs a x y s t p q = p ∙ sym q

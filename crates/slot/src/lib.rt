@@ -4,7 +4,7 @@ ghost use Prim.Native.Nat.{_+_, _<_, _≤_};
 ghost use lib.ListN.{length, replicate};
 ghost use Rattle.base.specs.Words.{words};
 ghost use Rattle.image.specs.Limits.{maxCells};
-ghost use Rattle.slot.specs.States.{waiting, isIn};
+ghost use Rattle.slot.specs.States.{waiting, canSettle, isIn};
 ghost use Rattle.slot.specs.Layout.{countWord, firstWord, listWords};
 ghost use Rattle.slot.specs.Log.{placeIn, layout, logOf, withRead, withStore, Holds, Marked};
 
@@ -46,6 +46,13 @@ pub const FIRST_END: u32 = REJECTED;
 
 // Check 7 refuses a state over this one.
 pub const LAST_STATE: u32 = CARRIED;
+
+// Whether a program in this state is to be settled.
+pub fn can_settle(state: u32) -> bool
+    ensures { λ r. ⌜ r ≡ canSettle state ⌝ }
+{
+    state == GATHERED
+}
 
 // The programs that the listed order names, and those that the next image has.
 pub enum Group {

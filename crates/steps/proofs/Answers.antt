@@ -1,49 +1,40 @@
 -- The numbers of an answer are the two words of the slot that the call leaves; on a refusal they are its number and 0, and nothing is changed.
 -- Assumes nothing.
 use Prim.Native.Nat.{ℕ, _+_, _≤_, _<_}
-use mathlib.Core.Path.{_≡_, refl, ap, _∙_}
+use mathlib.Core.Path.{_≡_, refl, sym, ap, _∙_}
 use mathlib.Core.Bool.{Bool, true, false}
 use mathlib.Core.List.{List}
 use native.Mathlib.Omega.{arith}
 use lib.ListN.{length, getD}
-use Rattle.base.proofs.Calls.{unless-refused}
-use Rattle.image.specs.Refusals.{refusing}
+use Rattle.image.proofs.Refusing.{unless-refused, unless-done}
 use Rattle.image.specs.Image.{countOf, partOf}
 use Rattle.slot.specs.Layout.{stateWord, detailWord, slotWords}
 use Rattle.machine.specs.Runs.{stateOfRun, detailOfRun}
 use Rattle.machine.proofs.Laws.{part-runnable, slot-of-state, slot-of-detail}
-use Rattle.area.specs.Layout.{slotStart, stateOf, detailOf}
+use Rattle.area.specs.Layout.{slotStart}
 use Rattle.area.specs.Checks.{openRefusal, Checked}
 use Rattle.area.proofs.Views.{state-in-slot, detail-in-slot}
 use Rattle.area.proofs.Changes.{state-back, detail-back}
 use Rattle.steps.specs.declared.Gathered.the-variants as gathering
 use Rattle.steps.specs.declared.Settled.{Settled}
 use Rattle.steps.specs.declared.Settled.the-variants as settling
-use Rattle.steps.specs.Answers.{Numbers, refusedBy, doneWith, numbersOfGathered, numbersOfSettled}
+use Rattle.steps.specs.Answers.{Numbers, refusedBy, doneWith, wordsOf, numbersOfGathered, numbersOfSettled}
 use Rattle.steps.specs.Opening.{cleared, openArea}
 use Rattle.steps.specs.Gathering.{gatherRefusal, runAt, gatheredArea, gatherAnswer, gatherArea}
 use Rattle.steps.specs.Settling.{settleRefusal, byRule1, byRule2, decided, verdict, settledTable, settledArea, settleAnswer}
 use Rattle.steps.specs.Settling.{settleTable, settleArea}
 use Rattle.steps.proofs.Refusals.{gather-shows, settle-shows}
 use Rattle.steps.proofs.Views.{gathered-own}
-
--- the state and the detail of program k, as numbers of a call that is done
-abbrev pub wordsOf : ℕ → ℕ → List ℕ → Numbers
-wordsOf T k a = doneWith (stateOf T k a) (detailOf T k a)
+use Rattle.steps.proofs.Keeps.{fits}
 
 same-numbers : (x : Numbers) (state detail : ℕ) → x .refusal ≡ 0 → state ≡ x .state → detail ≡ x .detail → x ≡ doneWith state detail
 same-numbers x state detail e f g = rw (f, g) (ap (λ (r : ℕ). record { refusal = r; state = x .state; detail = x .detail }) e)
 
 -- ---- opening
 
-module _ (image t a : List ℕ) where
-  pub open-zeros : openRefusal image t a ≡ 0 → openArea image t a ≡ cleared a
-  unfolding openArea
-  open-zeros e = rw e
-
-  pub open-nothing : (openRefusal image t a ≡ 0 → ⊥) → openArea image t a ≡ a
-  unfolding openArea
-  open-nothing h = unless-refused (openRefusal image t a) (λ r. a) (cleared a) h
+pub open-nothing : (image t a : List ℕ) → (openRefusal image t a .number ≡ 0 → ⊥) → openArea image t a ≡ a
+unfolding openArea
+open-nothing image t a h = unless-refused (openRefusal image t a) (λ r. a) (cleared a) h
 
 -- ---- gathering
 
@@ -53,21 +44,23 @@ module _ (image t a : List ℕ) (k : ℕ) where
   left-words c h =
       let p : List ℕ = partOf image k in
       let short = part-runnable image (c .accepted) k h .short in
-      let own = gathered-own p t short (countOf image) k a (c .sized) h in
+      let own = gathered-own (length t) (runAt image t k) (fits image t a k c h) (countOf image) k a (c .sized) h in
       same-numbers (doneWith (stateOfRun (runAt image t k .answer)) (detailOfRun (runAt image t k .answer))) _ _ refl
       (state-in-slot (length t) k (gatheredArea image t k a) ∙ (ap (λ (s : List ℕ). getD s stateWord 0) own ∙ slot-of-state p t short))
       (detail-in-slot (length t) k (gatheredArea image t k a) ∙ (ap (λ (s : List ℕ). getD s detailWord 0) own ∙ slot-of-detail p t short))
 
-  pub gather-numbers : gatherRefusal image t a k ≡ 0 → numbersOfGathered (gatherAnswer image t a k) ≡ wordsOf (length t) k (gatherArea image t a k)
+  pub gather-numbers : gatherRefusal image t a k .number ≡ 0 → numbersOfGathered (gatherAnswer image t a k) ≡ wordsOf (length t) k (gatherArea image t a k)
   unfolding gatherAnswer gatherArea
-  gather-numbers e = let w = gather-shows image t a k e in rw e (left-words (w .0) (w .1))
+  gather-numbers e =
+      let w = gather-shows image t a k e in
+      ap numbersOfGathered (unless-done (gatherRefusal image t a k) gathering.Refused (gathering.Ran (runAt image t k .answer)) e)
+      ∙ (left-words (w .0) (w .1) ∙ ap (wordsOf (length t) k) (sym (unless-done (gatherRefusal image t a k) (λ r. a) (gatheredArea image t k a) e)))
 
-  pub gather-nothing : (gatherRefusal image t a k ≡ 0 → ⊥)
+  pub gather-nothing : (gatherRefusal image t a k .number ≡ 0 → ⊥)
       → (numbersOfGathered (gatherAnswer image t a k) ≡ refusedBy (gatherRefusal image t a k)) × (gatherArea image t a k ≡ a)
   unfolding gatherAnswer gatherArea
   gather-nothing h = (
-    ap numbersOfGathered (unless-refused (gatherRefusal image t a k) (λ r. gathering.Refused (refusing r))
-        (gathering.Ran (runAt image t k .answer)) h),
+    ap numbersOfGathered (unless-refused (gatherRefusal image t a k) gathering.Refused (gathering.Ran (runAt image t k .answer)) h),
     unless-refused (gatherRefusal image t a k) (λ r. a) (gatheredArea image t k a) h,
   )
 
@@ -97,19 +90,22 @@ module _ (image t a : List ℕ) (k : ℕ) where
       (state-back (length t) k (numbersOfSettled v .state) (numbersOfSettled v .detail) a lies)
       (detail-back (length t) k (numbersOfSettled v .state) (numbersOfSettled v .detail) a lies)
 
-  pub settle-numbers : settleRefusal image t a k ≡ 0 → numbersOfSettled (settleAnswer image t a k) ≡ wordsOf (length t) k (settleArea image t a k)
+  pub settle-numbers : settleRefusal image t a k .number ≡ 0 → numbersOfSettled (settleAnswer image t a k) ≡ wordsOf (length t) k (settleArea image t a k)
   unfolding settleAnswer settleArea verdict
   settle-numbers e =
       let w = settle-shows image t a k e in
-      rw e (settled-words (w .0) (w .1) (verdict image (length t) k a) (decided-done _ _ _ _))
+      let v : Settled = verdict image (length t) k a in
+      ap numbersOfSettled (unless-done (settleRefusal image t a k) settling.Refused v e)
+      ∙ (settled-words (w .0) (w .1) v (decided-done _ _ _ _)
+      ∙ ap (wordsOf (length t) k) (sym (unless-done (settleRefusal image t a k) (λ r. a) (settledArea v (length t) k a) e)))
 
-  pub settle-nothing : (settleRefusal image t a k ≡ 0 → ⊥)
+  pub settle-nothing : (settleRefusal image t a k .number ≡ 0 → ⊥)
       → (numbersOfSettled (settleAnswer image t a k) ≡ refusedBy (settleRefusal image t a k))
       × (settleTable image t a k ≡ t) × (settleArea image t a k ≡ a)
   unfolding settleAnswer settleTable settleArea
   settle-nothing h =
       let v : Settled = verdict image (length t) k a in (
-        ap numbersOfSettled (unless-refused (settleRefusal image t a k) (λ r. settling.Refused (refusing r)) v h),
+        ap numbersOfSettled (unless-refused (settleRefusal image t a k) settling.Refused v h),
         unless-refused (settleRefusal image t a k) (λ r. t) (settledTable v k a t) h,
         unless-refused (settleRefusal image t a k) (λ r. a) (settledArea v (length t) k a) h,
       )

@@ -4,12 +4,13 @@ use mathlib.Core.Path.{_≡_, sym, ap, subst, _∙_}
 use mathlib.Core.Bool.{Bool}
 use mathlib.Core.List.{List}
 use lib.ListN.{length}
-use Rattle.base.proofs.Calls.{unless-refused}
-use Rattle.image.specs.Refusals.{refusing}
-use Rattle.image.specs.Image.{countOf, partOf, secondRule}
+use Rattle.image.specs.declared.Refusal.{Refusal}
+use Rattle.image.specs.Refusals as refusal
+use Rattle.image.proofs.Refusing.{none-is, refused-as, done-as}
+use Rattle.image.specs.Image.{countOf, secondRule}
 use Rattle.machine.specs.declared.Run.{Run}
-use Rattle.machine.proofs.Laws.{part-runnable}
-use Rattle.area.specs.Layout.{writeMarks, readMarks, readsOf, storesOf, withState}
+use Rattle.area.specs.declared.MarkKind.the-variants.{Write, Read}
+use Rattle.area.specs.Layout.{marksAt, readsOf, storesOf, withState}
 use Rattle.area.specs.Marks.{reserve, waw, raw, war}
 use Rattle.area.specs.Checks.{openRefusal, Checked, Slotted}
 use Rattle.area.proofs.Checks.{checked-passed, program-slotted}
@@ -18,43 +19,34 @@ use Rattle.steps.specs.declared.Settled.{Settled}
 use Rattle.steps.specs.declared.Settled.the-variants as settling
 use Rattle.steps.specs.Answers.{numbersOfSettled}
 use Rattle.steps.specs.Opening.{cleared, openArea, OpenSays}
-use Rattle.steps.specs.Gathering.{gatherRefusal, runAt, reserved, gatheredBy, gatheredArea, gatherAnswer, gatherArea, GatherSays}
+use Rattle.steps.specs.Gathering.{gatherRefusal, runAt, reserved, gatheredBy, gatherAnswer, gatherArea, GatherSays}
 use Rattle.steps.specs.Gathering.{Gathers, RunsInto}
 use Rattle.steps.specs.Settling.{settleRefusal, decided, verdict, settledTable, settledArea, settleAnswer, settleTable, settleArea}
 use Rattle.steps.specs.Settling.{SettleSays, Settles}
-use Rattle.steps.proofs.Views.{placed, written, placed-stores, written-reads}
-use Rattle.steps.proofs.Keeps.{placed-checked, written-checked}
+use Rattle.steps.proofs.Views.{placed, marked, placed-stores, marked-reads}
+use Rattle.steps.proofs.Keeps.{fits, placed-checked, marked-checked}
 
 -- ---- opening
 
-module _ (image t a : List ℕ) (r : ℕ) (e : r ≡ openRefusal image t a) where
-  pub open-refused : (r ≡ 0 → ⊥) → OpenSays image t a r a
+module _ (image t a : List ℕ) (r : Refusal) (e : r ≡ openRefusal image t a) where
+  pub open-refused : (r .number ≡ 0 → ⊥) → OpenSays image t a r a
   unfolding openArea
-  open-refused h = record { answer = e; area = sym (unless-refused (openRefusal image t a) (λ r. a) (cleared a) (λ z. h (e ∙ z))) }
+  open-refused h = record { answer = e; area = refused-as (λ r. a) _ e h }
 
-  pub open-done : r ≡ 0 → (a′ : List ℕ) → a′ ≡ cleared a → OpenSays image t a 0 a′
+  pub open-done : r .number ≡ 0 → (a′ : List ℕ) → a′ ≡ cleared a → OpenSays image t a refusal.none a′
   unfolding openArea
-  open-done h a′ q = let z : openRefusal image t a ≡ 0 = sym e ∙ h in record { answer = sym z; area = rw z q }
+  open-done h a′ q = record { answer = sym (none-is h) ∙ e; area = done-as (λ r. a) e h q }
 
 -- ---- gathering
 
-module _ (image t a : List ℕ) (k r : ℕ) (e : r ≡ gatherRefusal image t a k) where
-  pub gather-refused : (r ≡ 0 → ⊥) → GatherSays image t a k (gathering.Refused (refusing r)) a
+module _ (image t a : List ℕ) (k : ℕ) (r : Refusal) (e : r ≡ gatherRefusal image t a k) where
+  pub gather-refused : (r .number ≡ 0 → ⊥) → GatherSays image t a k (gathering.Refused r) a
   unfolding gatherAnswer gatherArea
-  gather-refused h =
-      let g : gatherRefusal image t a k ≡ 0 → ⊥ = λ z. h (e ∙ z) in
-      record {
-        answer =
-            ap (λ (n : ℕ). gathering.Refused (refusing n)) e
-            ∙ sym (unless-refused (gatherRefusal image t a k) (λ r. gathering.Refused (refusing r)) (gathering.Ran (runAt image t k .answer)) g);
-        area = sym (unless-refused (gatherRefusal image t a k) (λ r. a) (gatheredArea image t k a) g);
-      }
+  gather-refused h = record { answer = refused-as gathering.Refused _ e h; area = refused-as (λ r. a) _ e h }
 
-  pub gather-done : r ≡ 0 → (x : Run) (a′ : List ℕ) → Gathers image t a k x a′ → GatherSays image t a k (gathering.Ran x) a′
+  pub gather-done : r .number ≡ 0 → (x : Run) (a′ : List ℕ) → Gathers image t a k x a′ → GatherSays image t a k (gathering.Ran x) a′
   unfolding gatherAnswer gatherArea
-  gather-done h x a′ w =
-      let z : gatherRefusal image t a k ≡ 0 = sym e ∙ h in
-      record { answer = rw z (ap gathering.Ran (w .answer)); area = rw z (w .area) }
+  gather-done h x a′ w = record { answer = done-as gathering.Refused e h (ap gathering.Ran (w .answer)); area = done-as (λ r. a) e h (w .area) }
 
 -- the parts of gathering, one after another: b is the area with the run's slot, d that with the write marks, z that with the read marks
 module _ (image t a : List ℕ) (k : ℕ) (c : Checked image t a) (h : k < countOf image) (x : Run) (b : List ℕ) (i : RunsInto image t a k x b) where
@@ -63,54 +55,47 @@ module _ (image t a : List ℕ) (k : ℕ) (c : Checked image t a) (h : k < count
       subst (λ (y : List ℕ). Slotted (length t) k y) (sym (i .area))
       (program-slotted image t (placed (length t) k (runAt image t k) a) (placed-checked image t a k c h) k h)
 
-  writes-are : (d : List ℕ) → d ≡ reserve (writeMarks (length t)) (storesOf (length t) k b) k b → d ≡ written (length t) k (runAt image t k) a
+  writes-are : (d : List ℕ) → d ≡ reserve (marksAt Write (length t)) (storesOf (length t) k b) k b → d ≡ marked (length t) k (runAt image t k) a
   writes-are d g =
-      let short = part-runnable image (c .accepted) k h .short in
       g
-      ∙ (ap (λ (y : List ℕ). reserve (writeMarks (length t)) (storesOf (length t) k y) k y) (i .area)
-      ∙ ap (λ (y : List ℕ). reserve (writeMarks (length t)) y k (placed (length t) k (runAt image t k) a))
-      (placed-stores (partOf image k) t short (countOf image) k a (c .sized) h (checked-passed image t a c)))
+      ∙ (ap (λ (y : List ℕ). reserve (marksAt Write (length t)) (storesOf (length t) k y) k y) (i .area)
+      ∙ ap (λ (y : List ℕ). reserve (marksAt Write (length t)) y k (placed (length t) k (runAt image t k) a))
+      (placed-stores (length t) (runAt image t k) (fits image t a k c h) (countOf image) k a (c .sized) h (checked-passed image t a c)))
 
-  module _ (d : List ℕ) (g : d ≡ reserve (writeMarks (length t)) (storesOf (length t) k b) k b) where
+  module _ (d : List ℕ) (g : d ≡ reserve (marksAt Write (length t)) (storesOf (length t) k b) k b) where
     pub after-stores : Slotted (length t) k d
     after-stores =
         subst (λ (y : List ℕ). Slotted (length t) k y) (sym (writes-are d g))
-        (program-slotted image t (written (length t) k (runAt image t k) a) (written-checked image t a k c h) k h)
+        (program-slotted image t (marked (length t) k (runAt image t k) a) (marked-checked image t a k c h) k h)
 
-    pub after-reads : (z : List ℕ) → z ≡ reserve (readMarks (length t)) (readsOf (length t) k d) k d → Gathers image t a k x z
+    pub after-reads : (z : List ℕ) → z ≡ reserve (marksAt Read (length t)) (readsOf (length t) k d) k d → Gathers image t a k x z
     unfolding gatheredBy reserved
     after-reads z q =
-        let short = part-runnable image (c .accepted) k h .short in
         record {
           answer = i .answer;
           area =
               q
-              ∙ (ap (λ (y : List ℕ). reserve (readMarks (length t)) (readsOf (length t) k y) k y) (writes-are d g)
-              ∙ ap (λ (y : List ℕ). reserve (readMarks (length t)) y k (written (length t) k (runAt image t k) a))
-              (written-reads (partOf image k) t short (countOf image) k a (c .sized) h (checked-passed image t a c)));
+              ∙ (ap (λ (y : List ℕ). reserve (marksAt Read (length t)) (readsOf (length t) k y) k y) (writes-are d g)
+              ∙ ap (λ (y : List ℕ). reserve (marksAt Read (length t)) y k (marked (length t) k (runAt image t k) a))
+              (marked-reads (length t) (runAt image t k) (fits image t a k c h) (countOf image) k a (c .sized) h (checked-passed image t a c)));
         }
 
 -- ---- settling
 
-module _ (image t a : List ℕ) (k r : ℕ) (e : r ≡ settleRefusal image t a k) where
-  pub settle-refused : (r ≡ 0 → ⊥) → SettleSays image t a k (settling.Refused (refusing r)) t a
+module _ (image t a : List ℕ) (k : ℕ) (r : Refusal) (e : r ≡ settleRefusal image t a k) where
+  pub settle-refused : (r .number ≡ 0 → ⊥) → SettleSays image t a k (settling.Refused r) t a
   unfolding settleAnswer settleTable settleArea
   settle-refused h =
-      let g : settleRefusal image t a k ≡ 0 → ⊥ = λ z. h (e ∙ z) in
-      let v : Settled = verdict image (length t) k a in
-      record {
-        answer =
-            ap (λ (n : ℕ). settling.Refused (refusing n)) e
-            ∙ sym (unless-refused (settleRefusal image t a k) (λ r. settling.Refused (refusing r)) v g);
-        table = sym (unless-refused (settleRefusal image t a k) (λ r. t) (settledTable v k a t) g);
-        area = sym (unless-refused (settleRefusal image t a k) (λ r. a) (settledArea v (length t) k a) g);
-      }
+      record { answer = refused-as settling.Refused _ e h; table = refused-as (λ r. t) _ e h; area = refused-as (λ r. a) _ e h }
 
-  pub settle-done : r ≡ 0 → (x : Settled) (t′ a′ : List ℕ) → Settles image t a k x t′ a′ → SettleSays image t a k x t′ a′
+  pub settle-done : r .number ≡ 0 → (x : Settled) (t′ a′ : List ℕ) → Settles image t a k x t′ a′ → SettleSays image t a k x t′ a′
   unfolding settleAnswer settleTable settleArea
   settle-done h x t′ a′ w =
-      let z : settleRefusal image t a k ≡ 0 = sym e ∙ h in
-      record { answer = rw z (w .answer); table = rw z (w .table); area = rw z (w .area) }
+      record {
+        answer = done-as settling.Refused e h (w .answer);
+        table = done-as (λ r. t) e h (w .table);
+        area = done-as (λ r. a) e h (w .area);
+      }
 
 pub judged : (image a : List ℕ) (T k : ℕ) (s w r x : Bool) (v : Settled) → v ≡ decided s w r x → s ≡ secondRule image
     → w ≡ waw T k a → r ≡ raw T k a → x ≡ war T k a → v ≡ verdict image T k a

@@ -4,6 +4,7 @@ use mathlib.Core.List.{List}
 use Prim.Native.Nat.{ℕ}
 use denote.Ref.{now}
 use Rattle.base.proofs.Unique.{Unique}
+use Rattle.image.specs.declared.Refusal.{Refusal}
 use Rattle.machine.specs.declared.Run.{Run}
 use Rattle.steps.specs.declared.Gathered.{Gathered}
 use Rattle.steps.specs.declared.Settled.{Settled}
@@ -19,7 +20,7 @@ use Rattle.steps.proofs.settle_checked.Kinds as settle-checked-kinds
 use Rattle.steps.proofs.settle_checked.Reads as settle-checked
 
 -- the answer and the area
-pub open-unique : Unique {A = ℕ × List ℕ} 3 open-kinds.ps open-kinds.r (λ κs x s. (x, now (s .1 .1 .0))) opening.Post
+pub open-unique : Unique {A = Refusal × List ℕ} 3 open-kinds.ps open-kinds.r (λ κs x s. (x, now (s .1 .1 .0))) opening.Post
 open-unique κs a x y s t p q = cc
 
 pub gather-unique : Unique {A = Gathered × List ℕ} 3 gather-kinds.ps gather-kinds.r (λ κs x s. (x, now (s .1 .1 .0))) gather.Post

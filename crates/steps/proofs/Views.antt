@@ -1,22 +1,23 @@
--- The area after each step, seen as write marks, read marks and slots. Assumes nothing.
-use Prim.Native.Nat.{ℕ, _≤_, _<_}
+-- The area after each step, seen as marks and slots. Assumes nothing.
+use Prim.Native.Nat.{ℕ, _<_}
 use mathlib.Core.Path.{_≡_, refl, sym, ap, _∙_}
 use mathlib.Core.List.{List, [], _∷_}
 use lib.ListN.{length, set, length-set}
 use Rattle.base.specs.Words.{words}
-use Rattle.image.specs.Limits.{maxProgramBytes}
+use Rattle.slot.specs.declared.ListKind.the-variants.{Reads, Stores}
 use Rattle.slot.specs.Layout.{stateWord, detailWord, slotWords}
-use Rattle.slot.specs.Log.{Log, logOf, Fits}
-use Rattle.machine.specs.Runs.{Outcome, runOf, kept, slotOf}
-use Rattle.machine.proofs.Laws.{run-fits, kept-fits, slot-of-length, slot-of-log}
-use Rattle.area.specs.Layout.{areaWords, writeMarks, readMarks, slotAt, readsOf, storesOf, valuesOf, withSlot}
-use Rattle.area.specs.Marks.{reserve, storeAll}
-use Rattle.area.proofs.Views.{log-in-slot}
-use Rattle.area.proofs.Changes.{slot-length, slot-own, slot-other, slot-write-marks, slot-read-marks, state-length, state-own, state-other}
-use Rattle.area.proofs.Changes.{state-write-marks, state-read-marks, reserve-length, writes-own, writes-read-marks, writes-slot, reads-own}
-use Rattle.area.proofs.Changes.{reads-write-marks, reads-slot}
-use Rattle.area.proofs.Checks.{Passed, reads-count-few, stores-count-few}
-use Rattle.area.proofs.Keeps.{slot-keeps, writes-keep, reads-keep}
+use Rattle.slot.specs.Log.{Log, cellsOf, logOf, Fits}
+use Rattle.slot.proofs.Slots.{layout-length, layout-log}
+use Rattle.machine.specs.Runs.{Outcome, keptBy, slotOf}
+use Rattle.area.specs.declared.MarkKind.{MarkKind}
+use Rattle.area.specs.declared.MarkKind.the-variants.{Write, Read}
+use Rattle.area.specs.Layout.{areaWords, marksAt, slotAt, readsOf, storesOf, valuesOf, withSlot}
+use Rattle.area.specs.Marks.{listFor, reserve, storeAll}
+use Rattle.area.proofs.Views.{each-mark, log-in-slot}
+use Rattle.area.proofs.Changes.{slot-length, slot-own, slot-other, slot-marks, state-length, state-own, state-other, state-marks}
+use Rattle.area.proofs.Changes.{reserve-length, reserve-own, reserve-read-marks, reserve-write-marks, reserve-slot}
+use Rattle.area.proofs.Checks.{Passed, count-few}
+use Rattle.area.proofs.Keeps.{slot-keeps, reserve-keeps}
 use Rattle.steps.specs.declared.Settled.{Settled}
 use Rattle.steps.specs.declared.Settled.the-variants.{Refused, Committed, Carried}
 use Rattle.steps.specs.Answers.{numbersOfSettled}
@@ -24,96 +25,81 @@ use Rattle.steps.specs.Gathering.{reserved, gatheredBy}
 use Rattle.steps.specs.Settling.{settledTable, settledArea}
 use Rattle.steps.proofs.Slots.{slot-passes}
 
--- ---- gathering
-
--- what a run keeps
-abbrev pub keptBy : Outcome → Log
-keptBy o = kept (o .answer) (o .log)
+-- ---- gathering, of any outcome that fits
 
 -- the area with the run's slot, and then with its write marks
 abbrev pub placed : ℕ → ℕ → Outcome → List ℕ → List ℕ
 placed T k o a = withSlot T k (slotOf o) a
 
-abbrev pub written : ℕ → ℕ → Outcome → List ℕ → List ℕ
-written T k o a = reserve (writeMarks T) (keptBy o .cells) k (placed T k o a)
+abbrev pub marked : ℕ → ℕ → Outcome → List ℕ → List ℕ
+marked T k o a = reserve (marksAt Write T) (keptBy o .cells) k (placed T k o a)
 
-module _ (p t : List ℕ) (short : length p ≤ maxProgramBytes) (n k : ℕ) (a : List ℕ) (sized : length a ≡ areaWords (length t) n) (l : k < n) where
-  pub placed-length : length (placed (length t) k (runOf p t) a) ≡ length a
-  placed-length = slot-length (length t) n k (slotOf (runOf p t)) a (slot-of-length p t short) sized l
+module _ (T : ℕ) (o : Outcome) (fits : Fits T (keptBy o)) (n k : ℕ) (a : List ℕ) (sized : length a ≡ areaWords T n) (l : k < n) where
+  full : length (slotOf o) ≡ slotWords
+  unfolding slotOf
+  full = layout-length _ _ (keptBy o) T fits
 
-  pub written-length : length (written (length t) k (runOf p t) a) ≡ length a
-  written-length = reserve-length (writeMarks (length t)) k (keptBy (runOf p t) .cells) (placed (length t) k (runOf p t) a) ∙ placed-length
+  pub placed-length : length (placed T k o a) ≡ length a
+  placed-length = slot-length T n k (slotOf o) a full sized l
 
-  fits : Fits (length t) (keptBy (runOf p t))
-  fits = kept-fits (length t) (runOf p t .answer) (runOf p t .log) (run-fits p t short)
+  pub marked-length : length (marked T k o a) ≡ length a
+  marked-length = reserve-length (marksAt Write T) k (keptBy o .cells) (placed T k o a) ∙ placed-length
 
-  full : length (slotOf (runOf p t)) ≡ slotWords
-  full = slot-of-length p t short
-
-  pub gathered-length : length (gatheredBy (length t) k (runOf p t) a) ≡ length a
+  pub gathered-length : length (gatheredBy T k o a) ≡ length a
   unfolding gatheredBy reserved
-  gathered-length =
-      reserve-length (readMarks (length t)) k (keptBy (runOf p t) .reads) (written (length t) k (runOf p t) a) ∙ written-length
+  gathered-length = reserve-length (marksAt Read T) k (keptBy o .reads) (marked T k o a) ∙ marked-length
 
-  pub gathered-write-marks : words (writeMarks (length t)) (length t) (gatheredBy (length t) k (runOf p t) a)
-      ≡ reserve 0 (keptBy (runOf p t) .cells) k (words (writeMarks (length t)) (length t) a)
+  pub gathered-marks : (m : MarkKind) → words (marksAt m T) T (gatheredBy T k o a) ≡ reserve 0 (cellsOf (listFor m) (keptBy o)) k (words (marksAt m T) T a)
   unfolding gatheredBy reserved
-  gathered-write-marks =
-      reads-write-marks (length t) k (keptBy (runOf p t) .reads) (written (length t) k (runOf p t) a) (fits .reads-in)
-      ∙ (writes-own (length t) k (keptBy (runOf p t) .cells) (placed (length t) k (runOf p t) a) (fits .cells-in)
-      ∙ ap (reserve 0 (keptBy (runOf p t) .cells) k) (slot-write-marks (length t) n k (slotOf (runOf p t)) a full sized l))
+  gathered-marks =
+      each-mark _
+      (reserve-write-marks T k (keptBy o .reads) (marked T k o a) (fits .inside Reads)
+      ∙ (reserve-own T k (keptBy o .cells) (placed T k o a) (fits .inside Stores) Write
+      ∙ ap (reserve 0 (keptBy o .cells) k) (slot-marks T n k (slotOf o) a full sized l Write)))
+      (reserve-own T k (keptBy o .reads) (marked T k o a) (fits .inside Reads) Read
+      ∙ ap (reserve 0 (keptBy o .reads) k)
+      (reserve-read-marks T k (keptBy o .cells) (placed T k o a) (fits .inside Stores) ∙ slot-marks T n k (slotOf o) a full sized l Read))
 
-  pub gathered-read-marks : words (readMarks (length t)) (length t) (gatheredBy (length t) k (runOf p t) a)
-      ≡ reserve 0 (keptBy (runOf p t) .reads) k (words (readMarks (length t)) (length t) a)
-  unfolding gatheredBy reserved
-  gathered-read-marks =
-      reads-own (length t) k (keptBy (runOf p t) .reads) (written (length t) k (runOf p t) a) (fits .reads-in)
-      ∙ ap (reserve 0 (keptBy (runOf p t) .reads) k)
-      (writes-read-marks (length t) k (keptBy (runOf p t) .cells) (placed (length t) k (runOf p t) a) (fits .cells-in)
-      ∙ slot-read-marks (length t) n k (slotOf (runOf p t)) a full sized l)
-
-  slots-stay : (j : ℕ) → slotAt (length t) j (gatheredBy (length t) k (runOf p t) a) ≡ slotAt (length t) j (placed (length t) k (runOf p t) a)
+  slots-stay : (j : ℕ) → slotAt T j (gatheredBy T k o a) ≡ slotAt T j (placed T k o a)
   unfolding gatheredBy reserved
   slots-stay j =
-      reads-slot (length t) k (keptBy (runOf p t) .reads) (written (length t) k (runOf p t) a) (fits .reads-in) j
-      ∙ writes-slot (length t) k (keptBy (runOf p t) .cells) (placed (length t) k (runOf p t) a) (fits .cells-in) j
+      reserve-slot T k (keptBy o .reads) (marked T k o a) (fits .inside Reads) Read j
+      ∙ reserve-slot T k (keptBy o .cells) (placed T k o a) (fits .inside Stores) Write j
 
-  pub gathered-own : slotAt (length t) k (gatheredBy (length t) k (runOf p t) a) ≡ slotOf (runOf p t)
-  gathered-own = slots-stay k ∙ slot-own (length t) n k (slotOf (runOf p t)) a full sized l
+  own-placed : slotAt T k (placed T k o a) ≡ slotOf o
+  own-placed = slot-own T n k (slotOf o) a full sized l
 
-  pub gathered-other : (j : ℕ) → j < n → (j ≡ k → ⊥) → slotAt (length t) j (gatheredBy (length t) k (runOf p t) a) ≡ slotAt (length t) j a
-  gathered-other j h q = slots-stay j ∙ slot-other (length t) n k (slotOf (runOf p t)) a full sized l j h q
+  pub gathered-own : slotAt T k (gatheredBy T k o a) ≡ slotOf o
+  gathered-own = slots-stay k ∙ own-placed
+
+  pub gathered-other : (j : ℕ) → j < n → (j ≡ k → ⊥) → slotAt T j (gatheredBy T k o a) ≡ slotAt T j a
+  gathered-other j h q = slots-stay j ∙ slot-other T n k (slotOf o) a full sized l j h q
 
   -- what check 7 asks holds after each of the three parts of gathering
-  module _ (passed : Passed (length t) n a) where
-    pub placed-passed : Passed (length t) n (placed (length t) k (runOf p t) a)
-    placed-passed = slot-keeps (length t) n k (slotOf (runOf p t)) a full sized l (slot-passes p t short) passed
+  module _ (passed : Passed T n a) where
+    pub placed-passed : Passed T n (placed T k o a)
+    placed-passed = slot-keeps T n k (slotOf o) a full sized l (slot-passes T o fits) passed
 
-    pub written-passed : Passed (length t) n (written (length t) k (runOf p t) a)
-    written-passed = writes-keep (length t) n k (keptBy (runOf p t) .cells) (placed (length t) k (runOf p t) a) l (fits .cells-in) placed-passed
+    pub marked-passed : Passed T n (marked T k o a)
+    marked-passed = reserve-keeps T n k Write (keptBy o .cells) (placed T k o a) l (fits .inside Stores) placed-passed
 
-    pub gathered-passed : Passed (length t) n (gatheredBy (length t) k (runOf p t) a)
+    pub gathered-passed : Passed T n (gatheredBy T k o a)
     unfolding gatheredBy reserved
-    gathered-passed = reads-keep (length t) n k (keptBy (runOf p t) .reads) (written (length t) k (runOf p t) a) l (fits .reads-in) written-passed
+    gathered-passed = reserve-keeps T n k Read (keptBy o .reads) (marked T k o a) l (fits .inside Reads) marked-passed
 
     -- the cells that the code reads back out of the slot are those that the run kept
-    lists : (b : List ℕ) → Passed (length t) n b → slotAt (length t) k b ≡ slotOf (runOf p t)
-        → record { reads = readsOf (length t) k b; cells = storesOf (length t) k b; values = valuesOf (length t) k b } ≡ keptBy (runOf p t)
-    lists b q e =
-        sym (log-in-slot (length t) k b (reads-count-few (length t) k b (q .slots k l)) (stores-count-few (length t) k b (q .slots k l)))
-        ∙ (ap logOf e ∙ slot-of-log p t short)
+    lists : (b : List ℕ) → Passed T n b → slotAt T k b ≡ slotOf o
+        → record { reads = readsOf T k b; cells = storesOf T k b; values = valuesOf T k b } ≡ keptBy o
+    unfolding slotOf
+    lists b q e = sym (log-in-slot T k b (count-few T k b (q .slots k l))) ∙ (ap logOf e ∙ layout-log _ _ (keptBy o) T fits)
 
-    own-placed : slotAt (length t) k (placed (length t) k (runOf p t) a) ≡ slotOf (runOf p t)
-    own-placed = slot-own (length t) n k (slotOf (runOf p t)) a full sized l
+    pub placed-stores : storesOf T k (placed T k o a) ≡ keptBy o .cells
+    placed-stores = ap (λ (x : Log). x .cells) (lists (placed T k o a) placed-passed own-placed)
 
-    pub placed-stores : storesOf (length t) k (placed (length t) k (runOf p t) a) ≡ keptBy (runOf p t) .cells
-    placed-stores = ap (λ (x : Log). x .cells) (lists (placed (length t) k (runOf p t) a) placed-passed own-placed)
-
-    pub written-reads : readsOf (length t) k (written (length t) k (runOf p t) a) ≡ keptBy (runOf p t) .reads
-    written-reads =
+    pub marked-reads : readsOf T k (marked T k o a) ≡ keptBy o .reads
+    marked-reads =
         ap (λ (x : Log). x .reads)
-        (lists (written (length t) k (runOf p t) a) written-passed
-        (writes-slot (length t) k (keptBy (runOf p t) .cells) (placed (length t) k (runOf p t) a) (fits .cells-in) k ∙ own-placed))
+        (lists (marked T k o a) marked-passed (reserve-slot T k (keptBy o .cells) (placed T k o a) (fits .inside Stores) Write k ∙ own-placed))
 
 -- ---- settling
 
@@ -122,13 +108,9 @@ module _ (v : Settled) (T k : ℕ) (a : List ℕ) where
   unfolding settledArea
   settled-length = state-length T k (numbersOfSettled v .state) (numbersOfSettled v .detail) a
 
-  pub settled-write-marks : words (writeMarks T) T (settledArea v T k a) ≡ words (writeMarks T) T a
+  pub settled-marks : (m : MarkKind) → words (marksAt m T) T (settledArea v T k a) ≡ words (marksAt m T) T a
   unfolding settledArea
-  settled-write-marks = state-write-marks T k (numbersOfSettled v .state) (numbersOfSettled v .detail) a
-
-  pub settled-read-marks : words (readMarks T) T (settledArea v T k a) ≡ words (readMarks T) T a
-  unfolding settledArea
-  settled-read-marks = state-read-marks T k (numbersOfSettled v .state) (numbersOfSettled v .detail) a
+  settled-marks m = state-marks T k (numbersOfSettled v .state) (numbersOfSettled v .detail) a m
 
   pub settled-own : slotAt T k (settledArea v T k a)
       ≡ set (set (slotAt T k a) stateWord (numbersOfSettled v .state)) detailWord (numbersOfSettled v .detail)

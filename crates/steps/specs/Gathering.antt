@@ -2,33 +2,35 @@
 -- reservations". Assumes nothing.
 use Prim.Native.Nat.{ℕ}
 use mathlib.Core.Path.{_≡_}
-use mathlib.Core.Bool.{Bool, cond}
+use mathlib.Core.Bool.{Bool}
 use mathlib.Core.List.{List}
 use lib.ListN.{length}
 use lib.Dec.{eqb, ltb}
-use Rattle.base.specs.Words.{unless}
-use Rattle.image.specs.Refusals.{noSuchProgram, wrongState, refusing}
+use Rattle.image.specs.declared.Refusal.{Refusal}
+use Rattle.image.specs.Refusals as refusal
+use Rattle.image.specs.Refusals.{check, after, unless}
 use Rattle.image.specs.Image.{countOf, partOf}
 use Rattle.slot.specs.States.{waiting}
 use Rattle.slot.specs.Log.{Log}
 use Rattle.machine.specs.declared.Run.{Run}
-use Rattle.machine.specs.Runs.{Outcome, runOf, kept, slotOf}
-use Rattle.area.specs.Layout.{writeMarks, readMarks, stateOf, withSlot}
+use Rattle.machine.specs.Runs.{Outcome, runOf, keptBy, slotOf}
+use Rattle.area.specs.declared.MarkKind.the-variants.{Write, Read}
+use Rattle.area.specs.Layout.{marksAt, stateOf, withSlot}
 use Rattle.area.specs.Marks.{reserve}
 use Rattle.area.specs.Checks.{callRefusal}
 use Rattle.steps.specs.declared.Gathered.{Gathered}
 use Rattle.steps.specs.declared.Gathered.the-variants.{Refused, Ran}
 
--- checks 1 to 8, and then 9: a step is refused where its own test of the states fails
-unfoldable pub stepRefusal : Bool → List ℕ → List ℕ → List ℕ → ℕ → ℕ
-stepRefusal nine image t a k = unless (callRefusal image t a) (λ r. r) (cond (ltb k (countOf image)) (cond nine 0 wrongState) noSuchProgram)
+-- checks 1 to 8, which every step begins with
+unfoldable pub stepRefusal : List ℕ → List ℕ → List ℕ → ℕ → Refusal
+stepRefusal image t a k = after (callRefusal image t a) (check (ltb k (countOf image)) refusal.number refusal.none)
 
 -- 9, "gathering: state not 0"
 unfoldable pub waits : ℕ → ℕ → List ℕ → Bool
 waits T k a = eqb (stateOf T k a) waiting
 
-unfoldable pub gatherRefusal : List ℕ → List ℕ → List ℕ → ℕ → ℕ
-gatherRefusal image t a k = stepRefusal (waits (length t) k a) image t a k
+unfoldable pub gatherRefusal : List ℕ → List ℕ → List ℕ → ℕ → Refusal
+gatherRefusal image t a k = after (stepRefusal image t a k) (check (waits (length t) k a) refusal.state refusal.none)
 
 -- program k of the image on the table t
 abbrev pub runAt : List ℕ → List ℕ → ℕ → Outcome
@@ -36,17 +38,17 @@ runAt image t k = runOf (partOf image k) t
 
 -- program k reserves what it stores and what it reads; one that rejects or faults keeps nothing to reserve
 unfoldable pub reserved : ℕ → ℕ → Log → List ℕ → List ℕ
-reserved T k l a = reserve (readMarks T) (l .reads) k (reserve (writeMarks T) (l .cells) k a)
+reserved T k l a = reserve (marksAt Read T) (l .reads) k (reserve (marksAt Write T) (l .cells) k a)
 
 unfoldable pub gatheredBy : ℕ → ℕ → Outcome → List ℕ → List ℕ
-gatheredBy T k o a = reserved T k (kept (o .answer) (o .log)) (withSlot T k (slotOf o) a)
+gatheredBy T k o a = reserved T k (keptBy o) (withSlot T k (slotOf o) a)
 
 -- the area after program k is gathered, and after the call
 abbrev pub gatheredArea : List ℕ → List ℕ → ℕ → List ℕ → List ℕ
 gatheredArea image t k a = gatheredBy (length t) k (runAt image t k) a
 
 unfoldable pub gatherAnswer : List ℕ → List ℕ → List ℕ → ℕ → Gathered
-gatherAnswer image t a k = unless (gatherRefusal image t a k) (λ r. Refused (refusing r)) (Ran (runAt image t k .answer))
+gatherAnswer image t a k = unless (gatherRefusal image t a k) Refused (Ran (runAt image t k .answer))
 
 unfoldable pub gatherArea : List ℕ → List ℕ → List ℕ → ℕ → List ℕ
 gatherArea image t a k = unless (gatherRefusal image t a k) (λ r. a) (gatheredArea image t k a)

@@ -3,7 +3,8 @@ use Prim.Native.Nat.{ℕ}
 use mathlib.Core.Path.{_≡_}
 use mathlib.Core.List.{List}
 use lib.ListN.{length, replicate}
-use Rattle.base.specs.Words.{unless}
+use Rattle.image.specs.declared.Refusal.{Refusal}
+use Rattle.image.specs.Refusals.{unless}
 use Rattle.area.specs.Checks.{openRefusal}
 
 abbrev pub cleared : List ℕ → List ℕ
@@ -14,6 +15,6 @@ unfoldable pub openArea : List ℕ → List ℕ → List ℕ → List ℕ
 openArea image t a = unless (openRefusal image t a) (λ r. a) (cleared a)
 
 -- The contract of the call.
-pub record OpenSays (image t a : List ℕ) (r : ℕ) (a′ : List ℕ) : Type 0 where
+pub record OpenSays (image t a : List ℕ) (r : Refusal) (a′ : List ℕ) : Type 0 where
   pub answer : r ≡ openRefusal image t a
   pub area : a′ ≡ openArea image t a

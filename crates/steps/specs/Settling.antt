@@ -5,13 +5,13 @@ use mathlib.Core.Path.{_≡_}
 use mathlib.Core.Bool.{Bool, cond, _&&_}
 use mathlib.Core.List.{List}
 use lib.ListN.{length}
-use lib.Dec.{eqb}
-use Rattle.base.specs.Words.{unless}
-use Rattle.image.specs.Refusals.{refusing}
+use Rattle.image.specs.declared.Refusal.{Refusal}
+use Rattle.image.specs.Refusals as refusal
+use Rattle.image.specs.Refusals.{check, after, unless}
 use Rattle.image.specs.Image.{countOf, secondRule}
-use Rattle.slot.specs.States.{gathered}
-use Rattle.area.specs.Layout.{stateOf, storesOf, valuesOf, withState}
-use Rattle.area.specs.Marks.{waw, raw, war, storeAll}
+use Rattle.slot.specs.States.{canSettle}
+use Rattle.area.specs.Layout.{stateOf, withState}
+use Rattle.area.specs.Marks.{waw, raw, war, committed}
 use Rattle.area.specs.Checks.{noneWaits}
 use Rattle.steps.specs.declared.Reason.the-variants.{Waw, Raw, RawWithWar}
 use Rattle.steps.specs.declared.Settled.{Settled}
@@ -20,11 +20,12 @@ use Rattle.steps.specs.Answers.{numbersOfSettled}
 use Rattle.steps.specs.Gathering.{stepRefusal}
 
 -- 9, "Settling: some state 0, or this one's not 1"
-unfoldable pub settles : ℕ → ℕ → ℕ → List ℕ → Bool
-settles T n k a = noneWaits T n a && eqb (stateOf T k a) gathered
+unfoldable pub isReady : ℕ → ℕ → ℕ → List ℕ → Bool
+isReady T n k a = noneWaits T n a && canSettle (stateOf T k a)
 
-unfoldable pub settleRefusal : List ℕ → List ℕ → List ℕ → ℕ → ℕ
-settleRefusal image t a k = stepRefusal (settles (length t) (countOf image) k a) image t a k
+unfoldable pub settleRefusal : List ℕ → List ℕ → List ℕ → ℕ → Refusal
+settleRefusal image t a k =
+    after (stepRefusal image t a k) (check (isReady (length t) (countOf image) k a) refusal.state refusal.none)
 
 -- "Rule 1 commits without WAW and without RAW. Rule 2 commits without WAW and not with both RAW and WAR." The reasons: "1 WAW, looked at first; 2 RAW
 -- (Rule 1); 3 RAW with WAR (Rule 2)".
@@ -44,7 +45,7 @@ verdict image T k a = decided (secondRule image) (waw T k a) (raw T k a) (war T 
 -- "A committed program's stores go into the table at its settling, in the slot's order."
 unfoldable pub settledTable : Settled → ℕ → List ℕ → List ℕ → List ℕ
 settledTable (Refused r) k a t = t
-settledTable Committed k a t = storeAll (storesOf (length t) k a) (valuesOf (length t) k a) t
+settledTable Committed k a t = committed (length t) k a t
 settledTable (Carried reason) k a t = t
 
 -- its state and detail are the decision's; "Marks and slots of carried programs stay."
@@ -53,7 +54,7 @@ settledArea v T k a = withState T k (numbersOfSettled v .state) (numbersOfSettle
 
 -- what the call answers and leaves
 unfoldable pub settleAnswer : List ℕ → List ℕ → List ℕ → ℕ → Settled
-settleAnswer image t a k = unless (settleRefusal image t a k) (λ r. Refused (refusing r)) (verdict image (length t) k a)
+settleAnswer image t a k = unless (settleRefusal image t a k) Refused (verdict image (length t) k a)
 
 unfoldable pub settleTable : List ℕ → List ℕ → List ℕ → ℕ → List ℕ
 settleTable image t a k = unless (settleRefusal image t a k) (λ r. t) (settledTable (verdict image (length t) k a) k a t)

@@ -3,11 +3,11 @@ ghost use mathlib.Core.Path.{_≡_};
 ghost use Prim.Native.Nat.{_<_};
 ghost use lib.ListN.{length};
 ghost use Rattle.image.specs.Image.{countOf};
-ghost use Rattle.area.specs.Checks.{Checked, Slotted};
+ghost use Rattle.area.specs.Checks.{Checked, Measured, Slotted};
 ghost use Rattle.steps.specs.Answers.{numbersOfSettled, reasonNumber};
 ghost use Rattle.steps.specs.Opening.{OpenSays};
-ghost use Rattle.steps.specs.Gathering.{gatherRefusal, GatherSays, Gathers, RunsInto};
-ghost use Rattle.steps.specs.Settling.{settleRefusal, byRule1, byRule2, decided, verdict, settledTable, SettleSays, Settles};
+ghost use Rattle.steps.specs.Gathering.{stepRefusal, gatherRefusal, GatherSays, Gathers, RunsInto};
+ghost use Rattle.steps.specs.Settling.{isReady, settleRefusal, byRule1, byRule2, decided, verdict, settledTable, SettleSays, Settles};
 
 // What gathering answers.
 pub enum Gathered {
@@ -30,32 +30,43 @@ pub enum Settled {
 }
 
 // Opening sets the whole area to 0.
-pub fn open(image: &[u8], table: &[u32], area: &mut [u32]) -> u32
+pub fn open(image: &[u8], table: &[u32], area: &mut [u32]) -> image::Refusal
     ensures { λ r. ⌜ OpenSays (now (image .entry)) (now (table .entry)) (now (area .entry)) r (now (area .exit)) ⌝ }
 {
     let refused = area::open_refusal(image, table, area);
-    if refused != 0 {
+    if refused.number != 0 {
         return refused;
     }
     slot::clear(area);
-    0
+    image::Refusal::NONE
 }
 
-// Checks 1 to 9 of gathering.
-fn gather_refusal(image: &[u8], table: &[u32], area: &[u32], number: usize) -> u32
-    ensures { λ r. ⌜ r ≡ gatherRefusal (now (image .entry)) (now (table .entry)) (now (area .entry)) number ⌝ }
+// Checks 1 to 8, which every step begins with.
+fn step_refusal(image: &[u8], table: &[u32], area: &[u32], number: usize) -> image::Refusal
+    ensures { λ r. ⌜ r ≡ stepRefusal (now (image .entry)) (now (table .entry)) (now (area .entry)) number ⌝ }
 {
     let refused = area::call_refusal(image, table, area);
-    if refused != 0 {
+    if refused.number != 0 {
         return refused;
     }
     if image::count(image) <= number {
-        return image::Refusal::NO_SUCH_PROGRAM;
+        return image::Refusal::NUMBER;
+    }
+    image::Refusal::NONE
+}
+
+// Checks 1 to 9 of gathering.
+fn gather_refusal(image: &[u8], table: &[u32], area: &[u32], number: usize) -> image::Refusal
+    ensures { λ r. ⌜ r ≡ gatherRefusal (now (image .entry)) (now (table .entry)) (now (area .entry)) number ⌝ }
+{
+    let refused = step_refusal(image, table, area, number);
+    if refused.number != 0 {
+        return refused;
     }
     if area::state(area, table.len(), number) != slot::WAITING {
-        return image::Refusal::WRONG_STATE;
+        return image::Refusal::STATE;
     }
-    0
+    image::Refusal::NONE
 }
 
 // The program's run, from its part of the image into its slot.
@@ -75,8 +86,21 @@ pub fn gather_checked(image: &[u8], table: &[u32], area: &mut [u32], number: usi
     ensures { λ r. ⌜ Gathers (now (image .entry)) (now (table .entry)) (now (area .entry)) number r (now (area .exit)) ⌝ }
 {
     let run = run_into(image, table, area, number);
-    area::reserve_stores(area, table.len(), number);
-    area::reserve_reads(area, table.len(), number);
+    let cells = table.len();
+    area::reserve(
+        area,
+        cells,
+        number,
+        slot::ListKind::Stores,
+        area::MarkKind::Write,
+    );
+    area::reserve(
+        area,
+        cells,
+        number,
+        slot::ListKind::Reads,
+        area::MarkKind::Read,
+    );
     run
 }
 
@@ -85,31 +109,35 @@ pub fn gather(image: &[u8], table: &[u32], area: &mut [u32], number: usize) -> G
     ensures { λ r. ⌜ GatherSays (now (image .entry)) (now (table .entry)) (now (area .entry)) number r (now (area .exit)) ⌝ }
 {
     let refused = gather_refusal(image, table, area, number);
-    if refused != 0 {
-        return Gathered::Refused(image::Refusal { number: refused });
+    if refused.number != 0 {
+        return Gathered::Refused(refused);
     }
     Gathered::Ran(gather_checked(image, table, area, number))
 }
 
+// Check 9 of settling: whether no program of n waits, and this one is to be settled.
+fn is_ready(area: &[u32], cells: usize, n: usize, number: usize) -> bool
+    requires { ⌜ Measured cells n (now area) × (number < n) ⌝ }
+    ensures { λ r. ⌜ r ≡ isReady cells n number (now (area .entry)) ⌝ }
+{
+    if !area::states_from(area, cells, n, slot::GATHERED) {
+        return false;
+    }
+    slot::can_settle(area::state(area, cells, number))
+}
+
 // Checks 1 to 9 of settling.
-fn settle_refusal(image: &[u8], table: &[u32], area: &[u32], number: usize) -> u32
+fn settle_refusal(image: &[u8], table: &[u32], area: &[u32], number: usize) -> image::Refusal
     ensures { λ r. ⌜ r ≡ settleRefusal (now (image .entry)) (now (table .entry)) (now (area .entry)) number ⌝ }
 {
-    let refused = area::call_refusal(image, table, area);
-    if refused != 0 {
+    let refused = step_refusal(image, table, area, number);
+    if refused.number != 0 {
         return refused;
     }
-    let n = image::count(image);
-    if n <= number {
-        return image::Refusal::NO_SUCH_PROGRAM;
+    if !is_ready(area, table.len(), image::count(image), number) {
+        return image::Refusal::STATE;
     }
-    if !area::none_waits(area, table.len(), n) {
-        return image::Refusal::WRONG_STATE;
-    }
-    if area::state(area, table.len(), number) != slot::GATHERED {
-        return image::Refusal::WRONG_STATE;
-    }
-    0
+    image::Refusal::NONE
 }
 
 // Rule 1 commits without WAW and without RAW.
@@ -156,14 +184,32 @@ fn judge(image: &[u8], area: &[u32], cells: usize, number: usize) -> Settled
     ensures { λ r. ⌜ r ≡ verdict (now (image .entry)) cells number (now (area .entry)) ⌝ }
 {
     let second = image::second_rule(image);
-    let waw = area::waw(area, cells, number);
-    let raw = area::raw(area, cells, number);
-    let war = area::war(area, cells, number);
+    let waw = area::depends(
+        area,
+        cells,
+        number,
+        slot::ListKind::Stores,
+        area::MarkKind::Write,
+    );
+    let raw = area::depends(
+        area,
+        cells,
+        number,
+        slot::ListKind::Reads,
+        area::MarkKind::Write,
+    );
+    let war = area::depends(
+        area,
+        cells,
+        number,
+        slot::ListKind::Stores,
+        area::MarkKind::Read,
+    );
     decide(second, waw, raw, war)
 }
 
 // The reason's number in document 01.
-pub fn reason_number(reason: Reason) -> u32
+fn reason_number(reason: Reason) -> u32
     ensures { λ r. ⌜ r ≡ reasonNumber reason ⌝ }
 {
     match reason {
@@ -174,7 +220,7 @@ pub fn reason_number(reason: Reason) -> u32
 }
 
 // The state that a decision leaves.
-fn state_of(settled: Settled) -> u32
+pub fn state_of(settled: Settled) -> u32
     ensures { λ r. ⌜ r ≡ numbersOfSettled settled .state ⌝ }
 {
     match settled {
@@ -184,8 +230,8 @@ fn state_of(settled: Settled) -> u32
     }
 }
 
-// The detail that a decision leaves.
-fn detail_of(settled: Settled) -> u32
+// The detail that it leaves.
+pub fn detail_of(settled: Settled) -> u32
     ensures { λ r. ⌜ r ≡ numbersOfSettled settled .detail ⌝ }
 {
     match settled {
@@ -224,8 +270,8 @@ pub fn settle(image: &[u8], table: &mut [u32], area: &mut [u32], number: usize) 
     ensures { λ r. ⌜ SettleSays (now (image .entry)) (now (table .entry)) (now (area .entry)) number r (now (table .exit)) (now (area .exit)) ⌝ }
 {
     let refused = settle_refusal(image, table, area, number);
-    if refused != 0 {
-        return Settled::Refused(image::Refusal { number: refused });
+    if refused.number != 0 {
+        return Settled::Refused(refused);
     }
     settle_checked(image, table, area, number)
 }

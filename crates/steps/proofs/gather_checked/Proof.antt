@@ -1,6 +1,6 @@
 -- The run leaves its slot; the cells that the two reservations read back out of it are those that the run kept. Assumes nothing.
-use borrow.Author.Needs.{needs}
 use Rattle.steps.proofs.Says.{after-run, after-stores, after-reads}
+use borrow.Author.Needs.{needs}
 use Rattle.steps.proofs.gather_checked.Statement.{statement}
 use Rattle.steps.proofs.gather_checked.Tie as tie
 
@@ -8,23 +8,23 @@ use Rattle.steps.proofs.gather_checked.Tie as tie
 abbrev start : tie.After-run-into → tie.Start
 start c = c .before .before .before .before .before
 
-abbrev ran : tie.After-reserve-stores → tie.After-run-into
+abbrev ran : tie.After-reserve → tie.After-run-into
 ran c = c .before .before .before .before
 
-abbrev stored : tie.After-reserve-reads → tie.After-reserve-stores
+abbrev stored : tie.After-reserve2 → tie.After-reserve
 stored c = c .before .before .before .before
 
 run-into-requires : tie.Need-run-into-requires
 run-into-requires c κs = search needs
 
-reserve-stores-requires : tie.Need-reserve-stores-requires
-reserve-stores-requires c κs = let r = c .before .before .before in after-run _ _ _ _ (start r .pre .0) (start r .pre .1) _ _ (r .run-into .ensures)
+reserve-requires : tie.Need-reserve-requires
+reserve-requires c κs = let r = c .before .before .before in after-run _ _ _ _ (start r .pre .0) (start r .pre .1) _ _ (r .run-into .ensures)
 
-reserve-reads-requires : tie.Need-reserve-reads-requires
-reserve-reads-requires c κs =
+reserve-requires-2 : tie.Need-reserve-requires-2
+reserve-requires-2 c κs =
     let w = c .before .before .before in
     let r = ran w in
-    after-stores _ _ _ _ (start r .pre .0) (start r .pre .1) _ _ (r .run-into .ensures) _ (w .reserve-stores .ensures)
+    after-stores _ _ _ _ (start r .pre .0) (start r .pre .1) _ _ (r .run-into .ensures) _ (w .reserve .ensures)
 
 same-length : tie.Need-same-length
 same-length c = search needs
@@ -34,9 +34,8 @@ returns c =
     let z = c .before .before in
     let w = stored z in
     let r = ran w in
-    after-reads _ _ _ _ (start r .pre .0) (start r .pre .1) _ _ (r .run-into .ensures) _ (w .reserve-stores .ensures) _ (z .reserve-reads .ensures)
+    after-reads _ _ _ _ (start r .pre .0) (start r .pre .1) _ _ (r .run-into .ensures) _ (w .reserve .ensures) _ (z .reserve2 .ensures)
 
 pub gather-checked-spec : {M : Type 1} → statement M
 gather-checked-spec =
-    tie.close
-    (tie.spec run-into-requires reserve-stores-requires reserve-reads-requires same-length returns)
+    tie.close (tie.spec run-into-requires reserve-requires reserve-requires-2 same-length returns)

@@ -11,7 +11,7 @@ same-length : tie.Need-same-length
 same-length c = search needs
 
 returns : tie.Need-returns
-returns c = open-refused _ _ _ _ (c .before .open-refusal .ensures) (c .if1 .taken)
+returns c = open-refused _ _ _ _ (c .before .before .open-refusal .ensures) (c .if1 .taken)
 
 clear-requires : tie.Need-clear-requires
 clear-requires c κs = search needs
@@ -21,7 +21,7 @@ same-length-2 c = search needs
 
 returns-2 : tie.Need-returns-2
 returns-2 c =
-    let refusal = c .before .before .before .before .before .open-refusal in
+    let refusal = c .before .before .before .before .before .before .open-refusal in
     open-done _ _ _ _ (refusal .ensures) (c .before .before .before .before .if1 .left) _ (c .before .before .clear .ensures)
 
 pub open-spec : {M : Type 1} → statement M

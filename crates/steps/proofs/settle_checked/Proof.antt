@@ -1,6 +1,6 @@
 -- The decision is made on the area as it was; then the table takes its stores, and the slot its state and detail. Assumes nothing.
 use borrow.Author.Needs.{needs}
-use Rattle.area.proofs.Checks.{program-slotted}
+use Rattle.area.proofs.Checks.{program-lies, program-slotted}
 use Rattle.steps.proofs.Says.{after-settling}
 use Rattle.steps.proofs.settle_checked.Statement.{statement}
 use Rattle.steps.proofs.settle_checked.Tie as tie
@@ -30,7 +30,7 @@ detail-of-requires c κs = search needs
 write-state-requires : tie.Need-write-state-requires
 write-state-requires c κs =
     let s = start (decided-at (c .before .before .before .before .before)) in
-    program-slotted _ _ _ (s .pre .0) _ (s .pre .1)
+    program-lies _ _ _ (s .pre .0) _ (s .pre .1)
 
 same-length : tie.Need-same-length
 same-length c = search needs
