@@ -1,17 +1,17 @@
--- Sets of numbers below 64 as the bits of one number: and, one bit, none. Assumes nothing.
+-- Sets of numbers below 64 as the bits of one number: and, one bit, none, all. Assumes nothing.
 use mathlib.Core.Path.{_≡_, refl, sym, _∙_, ap}
 use mathlib.Core.Logic.{_⊎_, inl, inr}
 use mathlib.Core.Bool.{Bool, true, false, not, cond, _&&_}
-use Prim.Native.Nat.{ℕ, zero, suc, _+_, _*_, _%_, _^_, _≤_, _<_}
-use native.Mathlib.Nat.{pow-suc, one-mul}
+use Prim.Native.Nat.{ℕ, zero, suc, _+_, _-_, _*_, _/_, _%_, _^_, _≤_, _<_}
+use native.Mathlib.Nat.{pow-suc, one-mul, add-mul, mul-assoc, mul-comm}
 use native.Mathlib.Omega.{arith}
 use native.Mathlib.Numerals.{add-one}
 use lib.Dec.{eqb}
-use lib.Bits.{bitAnd, bitOr, bitXor, and-block, xor-block, or-shifted-r}
-use lib.Pow.{pow-pos, shl-exact}
+use lib.Bits.{bitAnd, bitOr, bitXor, and-block, xor-block, or-shifted-r, and-mask}
+use lib.Pow.{pow-pos, pow-add, high, shl-exact}
 use borrow.Author.Tests.{eqb-true, eq-eqb, ne-eqb}
 use Rattle.base.specs.Words.{first}
-use Rattle.base.specs.Masks.{wordBits, maskOf}
+use Rattle.base.specs.Masks.{wordBits, hasBit, maskOf}
 use Rattle.base.proofs.Bools.{known, clash, not-true, and-both, both-and}
 use Rattle.base.proofs.Numbers.{below, zero-or, first-is, first-none}
 
@@ -126,7 +126,33 @@ bit-at p n i l = rw (← one-bit n i l, and-masks p (λ j. eqb j i) n) (go (know
         rw (ne-eqb (maskOf (λ j. p j && eqb j i) n) 0 (λ z. omega (arith, s, pow-pos i))) (sym e)
     go (inr e) = rw (mask-none (λ j. p j && eqb j i) n (alone e)) (sym e)
 
--- ---- as the code has it: `1 << j` in 64 bits
+-- bit k of a mask says whether k passes: the bits above it are a multiple of the next power, those below it are less than its own
+above : (p : ℕ → Bool) (i j : ℕ) → (rest : ℕ) × (maskOf p (j + i) ≡ rest * 2 ^ i + maskOf p i)
+above p i zero = (0, let e : 0 + i ≡ i = omega arith in rw e (omega arith))
+above p i (suc j) =
+    let t = above p i j in
+    let e : suc j + i ≡ suc (j + i) = omega arith in
+    (bitOf (p (j + i)) * 2 ^ j + t .0, rw (e, top p (j + i), t .1, pow-add 2 j i, add-mul, mul-assoc) (omega arith))
+
+pub has-bit : (p : ℕ → Bool) (n k : ℕ) → k < n → hasBit (maskOf p n) k ≡ p k
+unfolding hasBit bitOf
+has-bit p n k l =
+    let t = above p (suc k) (n - suc k) in
+    let e : n - suc k + suc k ≡ n = omega arith in
+    let twice : t .0 * 2 ^ suc k ≡ t .0 * 2 * 2 ^ k = ap (λ (x : ℕ). t .0 * x) (pow-suc 2 k ∙ mul-comm (2 ^ k) 2) ∙ sym (mul-assoc (t .0) 2 (2 ^ k)) in
+    let f : maskOf p n ≡ (t .0 * 2 + bitOf (p k)) * 2 ^ k + maskOf p k = ap (maskOf p) (sym e) ∙ t .1 ∙ rw (top p k, twice, add-mul) (omega arith) in
+    rw (f, high (t .0 * 2 + bitOf (p k)) k (mask-lt p k)) (go (t .0) (p k))
+  where
+    go : (rest : ℕ) (b : Bool) → eqb ((rest * 2 + bitOf b) % 2) 1 ≡ b
+    go rest true = eq-eqb ((rest * 2 + 1) % 2) 1 (omega arith)
+    go rest false = ne-eqb ((rest * 2 + 0) % 2) 1 (λ z. omega arith)
+
+pub mask-all : (n : ℕ) → maskOf (λ k. true) n ≡ 2 ^ n - 1
+unfolding maskOf
+mask-all zero = refl
+mask-all (suc k) = rw (mask-all k) (omega (arith, pow-suc 2 k, pow-pos k))
+
+-- ---- as the code has it: `1 << j` in 64 bits, `mask >> j & 1 == 1`
 
 abbrev pub oneBit : ℕ → ℕ
 oneBit j = (1 * 2 ^ j) % 2 ^ wordBits
@@ -136,3 +162,7 @@ shifted j h = shl-exact {a = 1} 1 j wordBits (omega arith) (omega arith) ∙ one
 
 pub bit-in : (m j : ℕ) → j < wordBits → m < 2 ^ j → bitOr m (oneBit j) ≡ m + 2 ^ j
 bit-in m j h l = rw (shifted j h) (ap (bitOr m) (sym (one-mul (2 ^ j))) ∙ or-shifted-r 1 j m l ∙ omega arith)
+
+pub bit-is : (x j : ℕ) → eqb (bitAnd (x / 2 ^ j) 1) 1 ≡ hasBit x j
+unfolding hasBit
+bit-is x j = rw (and-mask (x / 2 ^ j) 1)

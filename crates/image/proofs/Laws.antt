@@ -12,31 +12,32 @@ use Rattle.base.specs.Words.{every}
 use Rattle.base.proofs.Bools.{and-left, and-right}
 use Rattle.base.proofs.Numbers.{every-at, every-false}
 use Rattle.base.proofs.Parts.{words-length}
-use Rattle.image.specs.Limits.{maxPrograms, instructionBytes, maxProgramBytes, headBytes}
+use Rattle.image.specs.Limits.{maxPrograms, instructionBytes, maxProgramBytes}
 use Rattle.image.specs.declared.Refusal.{Refusal}
 use Rattle.image.specs.Refusals as refusal
 use Rattle.image.specs.Instruction.{instructionsOf, placeGood, programGood}
-use Rattle.image.specs.Image.{byteAt, countOf, ruleByte, headerOf, offsetOf, bytesOf, partOf, sizeGood, headerGood}
+use Rattle.image.specs.Image.{byteAt, countOf, ruleByte, headerOf, offsetOf, bytesOf, partOf, Lies, sizeGood, headerGood}
 use Rattle.image.specs.Image.{holdsOffsets, firstGood, rises, whole, short, extentGood, extentsGood, lastGood, offsetsGood, codeGood}
 use Rattle.image.specs.Image.{refusalOf, programRefusalOf, programOf, startOf}
 use Rattle.image.proofs.Refusing.{goes-on, none-fails, none-after, unless-refused, unless-done}
 
+-- ---- a program that lies in the image has as many bytes as its offsets say, and so at most 32 instructions of 4
+
+lies-length : (image : List ℕ) (p : ℕ) → Lies image p → length (partOf image p) ≡ bytesOf image p
+unfolding partOf
+lies-length image p l = words-length (offsetOf image p) (bytesOf image p) image (omega (arith, l .rise, l .within))
+
+pub lies-short : (image : List ℕ) (p : ℕ) → Lies image p → length (partOf image p) ≤ maxProgramBytes
+lies-short image p l = omega (arith, lies-length image p l, l .short)
+
 -- ---- check 3: the programs of an image lie inside it, one after another
 
 module _ (image : List ℕ) (good : offsetsGood image ≡ true) where
-  pub offsets-begin : offsetOf image 0 ≡ headBytes (countOf image)
-  unfolding offsetsGood
-  offsets-begin =
-      eqb-true _ _
-      (and-right (holdsOffsets image) (firstGood image)
-      (and-left (holdsOffsets image && firstGood image) (extentsGood image)
-      (and-left (holdsOffsets image && firstGood image && extentsGood image) (lastGood image) good)))
-
-  pub offsets-end : offsetOf image (countOf image) ≡ length image
+  offsets-end : offsetOf image (countOf image) ≡ length image
   unfolding offsetsGood
   offsets-end = eqb-true _ _ (and-right (holdsOffsets image && firstGood image && extentsGood image) (lastGood image) good)
 
-  pub extent : (p : ℕ) → p < countOf image → extentGood image p ≡ true
+  extent : (p : ℕ) → p < countOf image → extentGood image p ≡ true
   unfolding offsetsGood extentsGood
   extent p l =
       every-at (countOf image) (λ p. extentGood image p)
@@ -44,15 +45,15 @@ module _ (image : List ℕ) (good : offsetsGood image ≡ true) where
       (and-left (holdsOffsets image && firstGood image && extentsGood image) (lastGood image) good))
       p l
 
-  pub offsets-rise : (p : ℕ) → p < countOf image → offsetOf image p ≤ offsetOf image (p + 1)
+  offsets-rise : (p : ℕ) → p < countOf image → offsetOf image p ≤ offsetOf image (p + 1)
   unfolding extentGood
   offsets-rise p l = leb-true _ _ (and-left (rises image p) (whole image p) (and-left (rises image p && whole image p) (short image p) (extent p l)))
 
-  pub extent-whole : (p : ℕ) → p < countOf image → bytesOf image p % instructionBytes ≡ 0
+  extent-whole : (p : ℕ) → p < countOf image → bytesOf image p % instructionBytes ≡ 0
   unfolding extentGood
   extent-whole p l = eqb-true _ _ (and-right (rises image p) (whole image p) (and-left (rises image p && whole image p) (short image p) (extent p l)))
 
-  pub extent-short : (p : ℕ) → p < countOf image → bytesOf image p ≤ maxProgramBytes
+  extent-short : (p : ℕ) → p < countOf image → bytesOf image p ≤ maxProgramBytes
   unfolding extentGood
   extent-short p l = leb-true _ _ (and-right (rises image p && whole image p) (short image p) (extent p l))
 
@@ -64,22 +65,19 @@ module _ (image : List ℕ) (good : offsetsGood image ≡ true) where
       let e : p + suc k ≡ p + k + 1 = omega arith in
       rw e (le-trans (rise-by k p (le-of-lt below)) step)
 
-  pub offsets-within : (p : ℕ) → p < countOf image → offsetOf image (p + 1) ≤ length image
+  offsets-within : (p : ℕ) → p < countOf image → offsetOf image (p + 1) ≤ length image
   offsets-within p l =
       let e : p + 1 + (countOf image - (p + 1)) ≡ countOf image = omega arith in
       rw (← offsets-end) (rw e at (rise-by (countOf image - (p + 1)) (p + 1) (omega arith)))
 
-  -- a program has as many bytes as its offsets say
-  pub part-length : (p : ℕ) → p < countOf image → length (partOf image p) ≡ bytesOf image p
-  unfolding partOf
-  part-length p l = words-length (offsetOf image p) (bytesOf image p) image (omega (arith, offsets-within p l, offsets-rise p l))
+  pub lies : (p : ℕ) → p < countOf image → Lies image p
+  lies p l = record { rise = offsets-rise p l; within = offsets-within p l; short = extent-short p l }
 
-  -- a program is at most 32 instructions of 4 bytes
   pub part-short : (p : ℕ) → p < countOf image → length (partOf image p) ≤ maxProgramBytes
-  part-short p l = omega (arith, part-length p l, extent-short p l)
+  part-short p l = lies-short image p (lies p l)
 
   pub part-whole : (p : ℕ) → p < countOf image → length (partOf image p) % instructionBytes ≡ 0
-  part-whole p l = rw (part-length p l) (extent-whole p l)
+  part-whole p l = rw (lies-length image p (lies p l)) (extent-whole p l)
 
 -- ---- check 4: a program is good where each of its instructions is, and a bad one makes the check fail
 

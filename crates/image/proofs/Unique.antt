@@ -12,6 +12,8 @@ use Rattle.image.proofs.rule.Kinds as rule-kinds
 use Rattle.image.proofs.rule.Reads as rule
 use Rattle.image.proofs.second_rule.Kinds as second-rule-kinds
 use Rattle.image.proofs.second_rule.Reads as second-rule
+use Rattle.image.proofs.head_bytes.Kinds as head-bytes-kinds
+use Rattle.image.proofs.head_bytes.Reads as head-bytes
 use Rattle.image.proofs.part_of.Kinds as part-of-kinds
 use Rattle.image.proofs.part_of.Reads as part-of
 use Rattle.image.proofs.image_refusal.Kinds as image-refusal-kinds
@@ -38,6 +40,9 @@ rule-unique κs a x y s t p q = p ∙ sym q
 
 pub second-rule-unique : Unique 1 second-rule-kinds.ps second-rule-kinds.r (λ κs x s. x) second-rule.Post
 second-rule-unique κs a x y s t p q = p ∙ sym q
+
+pub head-bytes-unique : Unique 0 head-bytes-kinds.ps head-bytes-kinds.r (λ κs x s. x) head-bytes.Post
+head-bytes-unique κs a x y s t p q = p ∙ sym q
 
 pub part-of-unique : Unique 1 part-of-kinds.ps part-of-kinds.r (λ κs x s. seen x) part-of.Post
 part-of-unique κs a x y s t p q = cc

@@ -1,6 +1,6 @@
 -- Document 01, "The image: counts and offsets": which lists of bytes are an image, which refusal the others get, and which part of the image a
 -- program is. Assumes nothing.
-use Prim.Native.Nat.{ℕ, _+_, _-_, _*_, _%_}
+use Prim.Native.Nat.{ℕ, _+_, _-_, _*_, _%_, _≤_}
 use mathlib.Core.Bool.{Bool, _&&_}
 use mathlib.Core.List.{List, []}
 use mathlib.Core.Path.{_≡_}
@@ -47,6 +47,12 @@ bytesOf image p = offsetOf image (p + 1) - offsetOf image p
 
 unfoldable pub partOf : List ℕ → ℕ → List ℕ
 partOf image p = words (offsetOf image p) (bytesOf image p) image
+
+-- It lies in the image: its two offsets are in order and end inside, and it is no longer than a program may be.
+pub record Lies (image : List ℕ) (p : ℕ) : Type 0 where
+  pub rise : offsetOf image p ≤ offsetOf image (p + 1)
+  pub within : offsetOf image (p + 1) ≤ length image
+  pub short : bytesOf image p ≤ maxProgramBytes
 
 -- Check 1, "image under 6 or over 8326 bytes".
 unfoldable pub sizeGood : List ℕ → Bool

@@ -2,7 +2,8 @@
 ghost use mathlib.Core.Path.{_≡_};
 ghost use mathlib.Core.Bool.{true};
 ghost use Prim.Native.Nat.{_^_, _<_, _≤_};
-ghost use Rattle.image.specs.Image.{byteAt, numberAt, countOf, ruleByte, headerOf, secondRule, offsetOf, partOf, Part, startOf};
+ghost use Rattle.image.specs.Limits.{headBytes};
+ghost use Rattle.image.specs.Image.{byteAt, numberAt, countOf, ruleByte, headerOf, secondRule, offsetOf, partOf, Lies, Part, startOf};
 ghost use Rattle.image.specs.Image.{sizeGood, headerGood, extentGood, extentsGood, offsetsGood, codeGood, refusalOf};
 ghost use Rattle.image.specs.Image.{ProgramSays, ProgramRefusalSays};
 
@@ -132,6 +133,14 @@ pub fn second_rule(bytes: &[u8]) -> bool
     rule(bytes) == 2
 }
 
+// How many bytes stand before the programs of an image that has n: the first offset.
+pub fn head_bytes(n: usize) -> usize
+    requires { ⌜ n < 65536 ⌝ }
+    ensures { λ r. ⌜ r ≡ headBytes n ⌝ }
+{
+    2 * n + Image::LEAST_BYTES
+}
+
 // Offset p of the image.
 fn offset(bytes: &[u8], p: usize) -> usize
     requires { ⌜ p ≤ 65536 ⌝ }
@@ -175,7 +184,7 @@ fn offsets_good(bytes: &[u8], n: usize) -> bool
     requires { ⌜ (n ≡ countOf (now bytes)) × (n < 65536) ⌝ }
     ensures { λ r. ⌜ r ≡ offsetsGood (now (bytes .entry)) ⌝ }
 {
-    let first = 2 * n + Image::LEAST_BYTES;
+    let first = head_bytes(n);
     if bytes.len() < first {
         return false;
     }
@@ -190,7 +199,7 @@ fn offsets_good(bytes: &[u8], n: usize) -> bool
 
 // The part of the image that program p is.
 pub fn part_of(bytes: &[u8], p: usize) -> &[u8]
-    requires { ⌜ (offsetsGood (now bytes) ≡ true) × (p < countOf (now bytes)) × (countOf (now bytes) < 65536) ⌝ }
+    requires { ⌜ Lies (now bytes) p × (p < 65536) ⌝ }
     ensures { λ r. ⌜ Part (bytes .entry) (offsetOf (now (bytes .entry)) p) (partOf (now (bytes .entry)) p) r ⌝ }
 {
     let start = offset(bytes, p);

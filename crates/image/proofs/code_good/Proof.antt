@@ -11,7 +11,7 @@ use Rattle.base.proofs.Numbers.{every-none, every-more}
 use Rattle.base.specs.Words.{every}
 use Rattle.image.specs.Instruction.{instructionsOf, placeGood, programGood}
 use Rattle.image.specs.Image.{countOf, partOf}
-use Rattle.image.proofs.Laws.{program-good, code-bad, code-good}
+use Rattle.image.proofs.Laws.{lies, program-good, code-bad, code-good}
 use Rattle.image.proofs.code_good.Statement.{statement}
 use Rattle.image.proofs.code_good.Tie as tie
 
@@ -31,7 +31,7 @@ programs-holds : tie.Need-programs-holds Inv-loop μ-loop Inv-programs μ-progra
 programs-holds c = (search needs, refl, every-none _)
 
 part-of-requires : tie.Need-part-of-requires Inv-loop μ-loop Inv-programs μ-programs
-part-of-requires c κs = (c .before .before .before .pre .0, omega arith, omega arith)
+part-of-requires c κs = (lies _ (c .before .before .before .pre .0) _ (omega arith), omega arith)
 
 loop-holds : tie.Need-loop-holds Inv-loop μ-loop Inv-programs μ-programs
 loop-holds c = (search needs, c .before .before .programs .inv .1, every-none _)

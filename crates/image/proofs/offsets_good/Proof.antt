@@ -14,7 +14,7 @@ use Rattle.image.proofs.offsets_good.Statement.{statement}
 use Rattle.image.proofs.offsets_good.Tie as tie
 
 abbrev image : tie.Else1 → List ℕ
-image c = now (c .before .before .args .bytes)
+image c = now (c .before .before .before .args .bytes)
 
 long : (c : tie.Else1) → holdsOffsets (image c) ≡ true
 long c = let h : headBytes (countOf (image c)) ≤ length (image c) = omega arith in le-leb _ _ h
@@ -22,16 +22,13 @@ long c = let h : headBytes (countOf (image c)) ≤ length (image c) = omega arit
 begins : (c : tie.Else2) → firstGood (image (c .before .before)) ≡ true
 begins c = let h : offsetOf (image (c .before .before)) 0 ≡ headBytes (countOf (image (c .before .before))) = omega arith in eq-eqb _ _ h
 
-mul-first : tie.Need-mul-first
-mul-first c = search needs
-
-add-first : tie.Need-add-first
-add-first c = search needs
+head-bytes-requires : tie.Need-head-bytes-requires
+head-bytes-requires c κs = search needs
 
 returns : tie.Need-returns
 unfolding offsetsGood
 returns c =
-    let bytes = now (c .before .before .args .bytes) in
+    let bytes = now (c .before .before .before .args .bytes) in
     let short : length bytes < headBytes (countOf bytes) = omega arith in
     simp (lt-leb _ _ short)
 
@@ -66,15 +63,14 @@ returns-4 c =
       begins passed,
       sym (c .before .before .extents-good .ensures) ∙ not-false _ (c .before .if3 .left),
       c .offset2 .ensures .0,
-      passed .before .before .before .before .pre .0,
+      passed .before .before .before .before .before .pre .0,
     )
 
 pub offsets-good-spec : {M : Type 1} → statement M
 offsets-good-spec =
     tie.close
     (tie.spec
-    mul-first
-    add-first
+    head-bytes-requires
     returns
     offset-requires
     returns-2

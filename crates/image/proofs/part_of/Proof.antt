@@ -1,16 +1,10 @@
--- `part_of` meets its contract: good offsets rise and end inside the image. Assumes nothing.
-use Prim.Native.Nat.{_+_, _≤_}
+-- `part_of` meets its contract: the program's offsets rise and end inside the image. Assumes nothing.
 use native.Mathlib.Omega.{arith}
 use borrow.Author.Needs.{needs}
-use denote.Ref.{now}
 use Rattle.base.specs.Words.{words}
-use Rattle.image.specs.Image.{offsetOf, partOf}
-use Rattle.image.proofs.Laws.{offsets-rise, offsets-within}
+use Rattle.image.specs.Image.{partOf}
 use Rattle.image.proofs.part_of.Statement.{statement}
 use Rattle.image.proofs.part_of.Tie as tie
-
-rise : (s : tie.Start) → offsetOf (now (s .args .bytes)) (s .args .p) ≤ offsetOf (now (s .args .bytes)) (s .args .p + 1)
-rise s = offsets-rise (now (s .args .bytes)) (s .pre .0) (s .args .p) (s .pre .1)
 
 offset-requires : tie.Need-offset-requires
 offset-requires c κs = search needs
@@ -22,13 +16,13 @@ offset-requires-2 : tie.Need-offset-requires-2
 offset-requires-2 c κs = search needs
 
 sub-result : tie.Need-sub-result
-sub-result c = omega (arith, rise (c .before .before .before))
+sub-result c = omega (arith, c .before .before .before .pre .0 .rise)
 
 part-result-start : tie.Need-part-result-start
-part-result-start c = omega (arith, rise (c .before .before .before))
+part-result-start c = omega (arith, c .before .before .before .pre .0 .rise)
 
 part-result-end : tie.Need-part-result-end
-part-result-end c = let s = c .before .before .before in omega (arith, offsets-within (now (s .args .bytes)) (s .pre .0) (s .args .p) (s .pre .1))
+part-result-end c = omega (arith, c .before .before .before .pre .0 .within)
 
 returns : tie.Need-returns
 unfolding partOf words

@@ -7,7 +7,7 @@ use borrow.Author.Needs.{needs}
 use denote.Ref.{now}
 use Rattle.image.specs.Image.{programRefusalOf}
 use Rattle.image.proofs.Refusing.{number-of}
-use Rattle.image.proofs.Laws.{accepted, few-programs, handed-back, handed-part, handed-nothing}
+use Rattle.image.proofs.Laws.{lies, accepted, handed-back, handed-low, handed-part, handed-nothing}
 use Rattle.image.proofs.program.Statement.{statement}
 use Rattle.image.proofs.program.Tie as tie
 
@@ -24,9 +24,7 @@ part-of-requires : tie.Need-part-of-requires
 part-of-requires c κs =
     let a = start (c .before .before) .args in
     let asked = handed-back (now (a .image)) (a .number) (found c) in
-    let passed = accepted (now (a .image)) (asked .0) in
-    let few = few-programs (now (a .image)) (passed .header) in
-    (passed .offsets, omega arith, omega arith)
+    (lies _ (accepted _ (asked .0) .offsets) _ (asked .1), omega (arith, handed-low (now (a .image)) (a .number) (found c)))
 
 slice-aggregate-result : tie.Need-slice-aggregate-result
 slice-aggregate-result c = search needs

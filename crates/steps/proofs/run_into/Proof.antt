@@ -5,7 +5,7 @@ use Prim.Native.Nat.{ℕ}
 use native.Mathlib.Omega.{arith}
 use lib.ListN.{length-take, length-drop}
 use borrow.Author.Needs.{needs}
-use Rattle.image.proofs.Laws.{accepted}
+use Rattle.image.proofs.Laws.{accepted, lies}
 use Rattle.machine.specs.Runs.{Runnable}
 use Rattle.machine.proofs.Laws.{part-runnable}
 use Rattle.steps.proofs.Slots.{runs-into}
@@ -13,7 +13,7 @@ use Rattle.steps.proofs.run_into.Statement.{statement}
 use Rattle.steps.proofs.run_into.Tie as tie
 
 part-of-requires : tie.Need-part-of-requires
-part-of-requires c κs = let s = c .before .before .before in (accepted _ (s .pre .0 .accepted) .offsets, s .pre .1, omega arith)
+part-of-requires c κs = let s = c .before .before .before in (lies _ (accepted _ (s .pre .0 .accepted) .offsets) _ (s .pre .1), omega (arith, s .pre .0 .programs, s .pre .1))
 
 slot-start-requires : tie.Need-slot-start-requires
 slot-start-requires c κs = search needs
