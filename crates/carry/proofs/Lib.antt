@@ -1,8 +1,6 @@
 pub mod Cases
-pub mod Good
+pub mod Checks
 pub mod Nexts
-pub mod Programs
-pub mod Result
+pub mod Sources
+pub mod Taken
 pub mod Unique
-pub mod Whole
-pub mod Writing

@@ -1,177 +1,109 @@
--- The call for the next image: which refusal each check gives, what no refusal shows, and what the call answers and leaves. Assumes nothing.
-use mathlib.Core.Path.{_≡_, refl, sym, ap}
-use mathlib.Core.Bool.{Bool, true, false, cond}
-use mathlib.Core.List.{List}
+-- The next image, where nothing is refused, is a good image; its programs are the carried ones in number order and then the fresh ones, with the
+-- fresh image's rule byte. Assumes nothing.
+use mathlib.Core.Path.{_≡_, refl, _∙_}
+use mathlib.Core.Bool.{Bool, true, false, cond, _&&_}
+use mathlib.Core.List.{List, [], _∷_}
 use Prim.Native.Nat.{ℕ, zero, suc, _+_, _≤_, _<_}
 use native.Mathlib.Omega.{arith}
-use lib.ListN.{length}
-use borrow.Author.Tests.{leb-true, le-leb, lt-leb}
-use Rattle.base.specs.Words.{count, unless}
-use Rattle.base.proofs.Calls.{unless-refused, unless-none}
+use lib.Dec.{leb, eqb}
+use lib.ListN.{length, getD, length-append, List·getD-append}
+use borrow.Author.Tests.{leb-true}
+use Rattle.base.specs.Words.{count}
+use Rattle.base.proofs.Bools.{and-left, and-right}
+use Rattle.base.proofs.Counts.{count-below, count-all}
+use Rattle.base.proofs.Numbers.{every-at}
 use Rattle.image.specs.Limits.{maxPrograms}
-use Rattle.image.specs.Refusals.{badSize, badHeader, badOffsets, badInstruction, wrongState, noRoom, tooMany, ofFresh, refusing}
-use Rattle.image.specs.Image.{countOf, ruleByte, partOf, sizeGood, headerOf, headerGood, offsetsGood, codeGood, refusalOf}
-use Rattle.image.proofs.Laws.{accepted}
-use Rattle.area.specs.Checks.{callRefusal, allEnded, Checked}
-use Rattle.area.proofs.Checks.{checked, few}
-use Rattle.carry.specs.declared.Next.the-variants.{Refused, Length}
-use Rattle.carry.specs.Next.{isCarried, carriedCount, allOf, nextPrograms, nextImage, fewEnough, fitsIn, nextRefusal, nextAnswer, nextOut, NextSays}
-use Rattle.carry.specs.Writing.{Source, Ready, Made}
-use Rattle.carry.proofs.Whole.{readied}
-use Rattle.carry.proofs.Result.{next-is-good, next-has-count, next-has-rule, next-has-programs, next-has-carried, next-has-fresh}
+use Rattle.image.specs.Instruction.{programGood}
+use Rattle.image.specs.Image.{byteAt, countOf, ruleByte, partOf, headerGood, codeGood, refusalOf}
+use Rattle.image.proofs.Laws.{Accepted, accepted, part-short, part-whole}
+use Rattle.writer.specs.Picked.{pick, picked, allOf}
+use Rattle.writer.proofs.Programs.{picked-count, picked-at}
+use Rattle.writer.proofs.Good.{Fine, All, all-append, image-count, image-rule, image-part, image-good, image-programs}
+use Rattle.carry.specs.Next.{isCarried, carriedCount, carriedOf, nextPrograms, nextImage, nextRefusal}
+use Rattle.carry.proofs.Checks.{NextShows, next-shows}
 
--- an image's refusal is one of four
-pub refusal-few : (image : List ℕ) → refusalOf image ≤ badInstruction
-unfolding refusalOf
-refusal-few image = go (sizeGood image) (headerGood (headerOf image)) (offsetsGood image) (codeGood image)
+-- ---- the programs of a good image are good programs
+
+part-fine : (image : List ℕ) → Accepted image → (i : ℕ) → i < countOf image → Fine (partOf image i)
+unfolding codeGood
+part-fine image good i below = record {
+  whole-instructions = part-whole image (good .offsets) i below;
+  short = part-short image (good .offsets) i below;
+  code = every-at (countOf image) (λ q. programGood (partOf image q)) (good .code) i below;
+}
+
+picked-fine : (test : ℕ → Bool) (image : List ℕ) → Accepted image → (k : ℕ) → k ≤ countOf image → All (picked test image k)
+unfolding picked pick
+picked-fine test image good zero h = tt
+picked-fine test image good (suc k) h = all-append (picked test image k) (pick test image k) (picked-fine test image good k (omega arith)) (go (test k))
   where
-    go : (a b c d : Bool) → cond {A = ℕ} a (cond b (cond c (cond d 0 badInstruction) badOffsets) badHeader) badSize ≤ badInstruction
-    go true true true true = omega arith
-    go true true true false = omega arith
-    go true true false d = omega arith
-    go true false c d = omega arith
-    go false b c d = omega arith
+    go : (b : Bool) → All (cond b (partOf image k ∷ []) [])
+    go true = (part-fine image good k (omega arith), tt)
+    go false = tt
 
-module _ (image t a fresh out : List ℕ) where
-  -- ---- the checks, one after another
+small-rule : (image : List ℕ) → Accepted image → ruleByte image ≤ 2
+unfolding headerGood
+small-rule image good =
+    leb-true (ruleByte image) 2
+    (and-right (leb (countOf image) maxPrograms) (leb (ruleByte image) 2)
+    (and-left (leb (countOf image) maxPrograms && leb (ruleByte image) 2) (eqb (byteAt image 3) 0) (good .header)))
 
-  pub next-call : (callRefusal image t a ≡ 0 → ⊥) → nextRefusal image t a fresh out ≡ callRefusal image t a
-  unfolding nextRefusal
-  next-call h = unless-refused (callRefusal image t a) (λ r. r) _ h
+-- ---- the next image
 
-  module _ (e : callRefusal image t a ≡ 0) where
-    pub next-nine : allEnded (length t) (countOf image) a ≡ false → nextRefusal image t a fresh out ≡ wrongState
-    unfolding nextRefusal
-    next-nine f = rw (e, f)
+module _ (image t a fresh out : List ℕ) (none : nextRefusal image t a fresh out ≡ 0) where
+  shown : NextShows image t a fresh out
+  shown = next-shows image t a fresh out none
 
-    module _ (f : allEnded (length t) (countOf image) a ≡ true) where
-      pub next-unfresh : (refusalOf fresh ≡ 0 → ⊥) → nextRefusal image t a fresh out ≡ ofFresh (refusalOf fresh)
-      unfolding nextRefusal
-      next-unfresh h = rw (e, f) (unless-refused (refusalOf fresh) ofFresh _ h)
+  abbrev programs : List (List ℕ)
+  programs = nextPrograms (length t) image a fresh
 
-      module _ (g : refusalOf fresh ≡ 0) where
-        pub next-many : maxPrograms < carriedCount (length t) (countOf image) a + countOf fresh → nextRefusal image t a fresh out ≡ tooMany
-        unfolding nextRefusal fewEnough
-        next-many h = rw (e, f, g, lt-leb (carriedCount (length t) (countOf image) a + countOf fresh) maxPrograms h)
+  carried-many : length (carriedOf (length t) image a) ≡ carriedCount (length t) (countOf image) a
+  unfolding carriedCount
+  carried-many = picked-count (isCarried (length t) a) image (countOf image)
 
-        module _ (h : carriedCount (length t) (countOf image) a + countOf fresh ≤ maxPrograms) where
-          pub next-long : length out < length (nextImage (length t) image a fresh) → nextRefusal image t a fresh out ≡ noRoom
-          unfolding nextRefusal fewEnough fitsIn
-          next-long l =
-              rw (
-                e,
-                f,
-                g,
-                le-leb (carriedCount (length t) (countOf image) a + countOf fresh) maxPrograms h,
-                lt-leb (length (nextImage (length t) image a fresh)) (length out) l,
-              )
+  many : length programs ≡ carriedCount (length t) (countOf image) a + countOf fresh
+  unfolding nextPrograms
+  many =
+      let fresh-many = picked-count (λ k. true) fresh (countOf fresh) ∙ count-all (λ k. true) (countOf fresh) (λ i l. refl) in
+      omega (arith, length-append (carriedOf (length t) image a) (allOf fresh), carried-many, fresh-many)
 
-          pub next-none : length (nextImage (length t) image a fresh) ≤ length out → nextRefusal image t a fresh out ≡ 0
-          unfolding nextRefusal fewEnough fitsIn
-          next-none l =
-              rw (
-                e,
-                f,
-                g,
-                le-leb (carriedCount (length t) (countOf image) a + countOf fresh) maxPrograms h,
-                le-leb (length (nextImage (length t) image a fresh)) (length out) l,
-              )
+  few : length programs ≤ maxPrograms
+  few = omega (arith, many, shown .few-enough)
 
-  -- ---- what no refusal shows
+  fine : All programs
+  unfolding nextPrograms
+  fine =
+      all-append (carriedOf (length t) image a) (allOf fresh)
+      (picked-fine (isCarried (length t) a) image (accepted image (shown .good)) (countOf image) (omega arith))
+      (picked-fine (λ k. true) fresh (accepted fresh (shown .good-fresh)) (countOf fresh) (omega arith))
 
-  pub record Passed : Type 0 where
-    pub call : Checked image t a
-    pub ended : allEnded (length t) (countOf image) a ≡ true
-    pub good-fresh : refusalOf fresh ≡ 0
-    pub few-enough : carriedCount (length t) (countOf image) a + countOf fresh ≤ maxPrograms
-    pub long-enough : length (nextImage (length t) image a fresh) ≤ length out
+  -- it is itself a good image
+  pub next-good : refusalOf (nextImage (length t) image a fresh) ≡ 0
+  unfolding nextImage
+  next-good = image-good (ruleByte fresh) programs few fine (small-rule fresh (accepted fresh (shown .good-fresh)))
 
-  all-passed : (ended : Bool) (r : ℕ) (few fits : Bool) → cond ended (unless r ofFresh (cond few (cond fits 0 noRoom) tooMany)) wrongState ≡ 0
-      → (ended ≡ true) × (r ≡ 0) × (few ≡ true) × (fits ≡ true)
-  all-passed true zero true true e = (refl, refl, refl, refl)
-  all-passed true zero true false e = absurd (omega arith)
-  all-passed true zero false fits e = absurd (omega arith)
-  all-passed true (suc r) few fits e = absurd (omega arith)
-  all-passed false r few fits e = absurd (omega arith)
+  -- its count is the states' own carried count and the fresh image's
+  pub next-count : countOf (nextImage (length t) image a fresh) ≡ carriedCount (length t) (countOf image) a + countOf fresh
+  unfolding nextImage
+  next-count = image-count (ruleByte fresh) programs few fine ∙ many
 
-  pub next-shows : nextRefusal image t a fresh out ≡ 0 → Passed
-  unfolding nextRefusal fewEnough fitsIn
-  next-shows e =
-      let w = unless-none (callRefusal image t a) _ e in
-      let p = all-passed (allEnded (length t) (countOf image) a) (refusalOf fresh) (fewEnough (length t) image a fresh) (fitsIn (length t) image a fresh out) (w .1) in
-      record {
-        call = checked image t a (w .0);
-        ended = p .0;
-        good-fresh = p .1;
-        few-enough = leb-true _ _ (p .2);
-        long-enough = leb-true _ _ (p .3);
-      }
+  -- its rule byte is the fresh image's
+  pub next-rule : ruleByte (nextImage (length t) image a fresh) ≡ ruleByte fresh
+  unfolding nextImage
+  next-rule = image-rule (ruleByte fresh) programs few fine
 
-  -- ---- what the writing takes
+  -- its programs are the carried ones in number order and then the fresh ones
+  pub next-programs : allOf (nextImage (length t) image a fresh) ≡ programs
+  unfolding nextImage
+  next-programs = image-programs (ruleByte fresh) programs few fine
 
-  pub old-source : Checked image t a → (n : ℕ) → n ≡ countOf image → Source image n (length t) a false
-  old-source c n e = record {
-    offsets = accepted image (c .accepted) .offsets;
-    count = e;
-    few = omega (arith, c .programs);
-    cells-few = c .cells-few;
-    room = λ f. omega (arith, c .sized);
-  }
-
-  pub fresh-source : Checked image t a → refusalOf fresh ≡ 0 → (m : ℕ) → m ≡ countOf fresh → Source fresh m (length t) a true
-  fresh-source c g m e = record {
-    offsets = accepted fresh g .offsets;
-    count = e;
-    few = omega (arith, few fresh g);
-    cells-few = c .cells-few;
-    room = λ f. let z : _≡_ {A = ℕ} 0 1 = cc in absurd (omega arith);
-  }
-
-  pub next-ready : nextRefusal image t a fresh out ≡ 0 → (n m : ℕ) → n ≡ countOf image → m ≡ countOf fresh → Ready image n (length t) a fresh m out
-  next-ready e n m f g =
-      let p = next-shows e in
-      readied (length t) image n a fresh m out (old-source (p .call) n f) (fresh-source (p .call) (p .good-fresh) m g) (p .long-enough)
-
-  -- ---- what the call answers and leaves
-
-  pub next-refused : (r : ℕ) → r ≡ nextRefusal image t a fresh out → (r ≡ 0 → ⊥) → NextSays image t a fresh out (Refused (refusing r)) out
-  unfolding nextAnswer nextOut
-  next-refused r e h =
-      record {
-        answer = sym (rw (← e) (unless-refused r (λ r. Refused (refusing r)) _ h));
-        bytes = sym (rw (← e) (unless-refused r (λ r. out) _ h));
-      }
-
-  pub next-done : nextRefusal image t a fresh out ≡ 0 → (r : ℕ) (out′ : List ℕ) → Made image (length t) a fresh out out′ r
-      → NextSays image t a fresh out (Length r) out′
-  unfolding nextAnswer nextOut
-  next-done e r out′ m = record { answer = rw e (ap Length (m .length-is)); bytes = rw e (m .bytes-are) }
-
-  -- ---- the next image, where nothing is refused
-
-  module _ (none : nextRefusal image t a fresh out ≡ 0) where
-    -- it is itself a good image
-    pub next-good : refusalOf (nextImage (length t) image a fresh) ≡ 0
-    next-good = let p = next-shows none in next-is-good (length t) image a fresh (p .call .accepted) (p .good-fresh) (p .few-enough)
-
-    -- its count is the states' own carried count and the fresh image's
-    pub next-count : countOf (nextImage (length t) image a fresh) ≡ carriedCount (length t) (countOf image) a + countOf fresh
-    next-count = let p = next-shows none in next-has-count (length t) image a fresh (p .call .accepted) (p .good-fresh) (p .few-enough)
-
-    -- its rule byte is the fresh image's
-    pub next-rule : ruleByte (nextImage (length t) image a fresh) ≡ ruleByte fresh
-    next-rule = let p = next-shows none in next-has-rule (length t) image a fresh (p .call .accepted) (p .good-fresh) (p .few-enough)
-
-    -- its programs are the carried ones in number order and then the fresh ones
-    pub next-programs : allOf (nextImage (length t) image a fresh) ≡ nextPrograms (length t) image a fresh
-    next-programs = let p = next-shows none in next-has-programs (length t) image a fresh (p .call .accepted) (p .good-fresh) (p .few-enough)
-
-    -- by number: a carried program's new number is that of the carried programs before it
-    pub next-carried-at : (k : ℕ) → k < countOf image → isCarried (length t) a k ≡ true
-        → partOf (nextImage (length t) image a fresh) (count (isCarried (length t) a) k) ≡ partOf image k
-    next-carried-at = let p = next-shows none in next-has-carried (length t) image a fresh (p .call .accepted) (p .good-fresh) (p .few-enough)
-
-    -- and a fresh program comes after all of them
-    pub next-fresh-at : (j : ℕ) → j < countOf fresh
-        → partOf (nextImage (length t) image a fresh) (carriedCount (length t) (countOf image) a + j) ≡ partOf fresh j
-    next-fresh-at = let p = next-shows none in next-has-fresh (length t) image a fresh (p .call .accepted) (p .good-fresh) (p .few-enough)
+  -- by number: a carried program's new number is that of the carried programs before it
+  pub next-carried-at : (k : ℕ) → k < countOf image → isCarried (length t) a k ≡ true
+      → partOf (nextImage (length t) image a fresh) (count (isCarried (length t) a) k) ≡ partOf image k
+  unfolding carriedCount nextImage nextPrograms
+  next-carried-at k l e =
+      let carried = isCarried (length t) a in
+      let h : count carried k < count carried (countOf image) = count-below carried (countOf image) k l e in
+      image-part (ruleByte fresh) programs few fine (count carried k) (omega (arith, many))
+      ∙ List·getD-append (carriedOf (length t) image a) (allOf fresh) [] (count carried k) (omega (arith, carried-many))
+      ∙ picked-at carried image k (countOf image) l e

@@ -13,5 +13,5 @@ use Rattle.carry.proofs.next_image.Reads as next-image
 pub next-image-unique : Unique {A = Next × List ℕ} 5 next-image-kinds.ps next-image-kinds.r (λ κs x s. (x, now (s .1 .1 .1 .1 .0))) next-image.Post
 next-image-unique κs a x y s t p q = cc
 
-pub write-next-unique : Unique {A = ℕ × List ℕ} 4 write-next-kinds.ps write-next-kinds.r (λ κs x s. (x, now (s .1 .1 .1 .1 .1 .1 .0))) write-next.Post
+pub write-next-unique : Unique {A = ℕ × List ℕ} 3 write-next-kinds.ps write-next-kinds.r (λ κs x s. (x, now (s .1 .1 .1 .1 .1 .1 .0))) write-next.Post
 write-next-unique κs a x y s t p q = cc

@@ -1,4 +1,3 @@
-pub mod Joined
 pub mod Next
-pub mod Writing
+pub mod Sources
 pub mod Opened

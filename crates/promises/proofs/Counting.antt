@@ -15,10 +15,9 @@ use Rattle.image.specs.Refusals.{noOrder, refusing, noCount, counted}
 use Rattle.listing.specs.declared.Listed.the-variants.{Refused, Count}
 use Rattle.listing.specs.Listing.{committedCount, orderOf, orderExists, listRefusal, orderRefusal, orderAnswer, numbersOfListed}
 use Rattle.carry.specs.declared.Next.the-variants as carrying
-use Rattle.carry.specs.Joined.{number, joined, imageOf}
+use Rattle.writer.specs.Joined.{number, joined, imageOf}
 use Rattle.carry.specs.Next.{isCarried, carriedCount, nextPrograms, nextImage, nextRefusal, nextAnswer, nextOut, numbersOfNext}
-use Rattle.carry.proofs.Programs.{picked-count}
-use Rattle.carry.proofs.Whole.{length-image}
+use Rattle.writer.proofs.Programs.{picked-count, length-image}
 use Rattle.carry.proofs.Nexts.{next-count}
 
 -- where the order is not refused, it has as many as are committed

@@ -10,7 +10,8 @@ use Rattle.slot.specs.States.{committed, carried}
 use Rattle.machine.specs.declared.Run.{Run}
 use Rattle.machine.specs.declared.Run.the-variants.{Finished, Rejected, Faulted}
 use Rattle.machine.specs.Runs.{stateOfRun}
-use Rattle.carry.specs.Next.{isCarried, carriedOf, allOf, nextPrograms, nextImage, nextRefusal}
+use Rattle.writer.specs.Picked.{allOf}
+use Rattle.carry.specs.Next.{isCarried, carriedOf, nextPrograms, nextImage, nextRefusal}
 use Rattle.carry.proofs.Nexts.{next-good, next-rule, next-programs}
 use Rattle.promises.specs.Paper.{batchOf, finishes, finished, commits, stateAfter}
 use Rattle.promises.specs.Laid.{World}

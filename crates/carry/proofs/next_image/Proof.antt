@@ -1,30 +1,43 @@
 -- A refusal is answered and the output is left; otherwise the checks have shown what `write_next` needs, and its length is the answer.
 -- Assumes nothing.
 use mathlib.Core.Path.{_≡_, sym, _∙_}
+use Prim.Native.Nat.{_+_}
+use native.Mathlib.Omega.{arith}
 use borrow.Author.Needs.{needs}
-use Rattle.carry.specs.Next.{nextRefusal}
-use Rattle.carry.proofs.Nexts.{next-ready, next-refused, next-done}
+use Rattle.carry.specs.Next.{lentRefusal}
+use Rattle.carry.proofs.Checks.{lent-shows, next-lent, next-refused}
+use Rattle.carry.proofs.Taken.{Taken, taken-sources, taken-size, taken-fits, taken-done}
 use Rattle.carry.proofs.next_image.Statement.{statement}
 use Rattle.carry.proofs.next_image.Tie as tie
 
-abbrev start-of : tie.After-next-refusal → tie.Start
-start-of c = c .before .before .before .before .before .before .before
+abbrev start-of : tie.After-lent-refusal → tie.Start
+start-of c = c .before .before .before .before .before .before
 
--- all checks have been passed
-passed : (c : tie.Else1)
-    → (let a = start-of (c .before) .args in nextRefusal (a .image .now) (a .table .now) (a .area .now) (a .fresh .now) (a .out .now) ≡ 0)
-passed c = sym (c .before .next-refusal .ensures) ∙ c .if1 .left
+-- what is lent is not refused
+lent : (c : tie.Else1) → (let a = start-of (c .before) .args in lentRefusal (a .image .now) (a .table .now) (a .area .now) (a .fresh .now) ≡ 0)
+lent c = sym (c .before .lent-refusal .ensures) ∙ c .if1 .left
 
-next-refusal-requires : tie.Need-next-refusal-requires
-next-refusal-requires c κs = search needs
+abbrev begin-of : tie.After-taken-count → tie.Start
+begin-of c = start-of (c .before .before .before .before .before)
 
-same-length : tie.Need-same-length
-same-length c = search needs
+taken : (c : tie.After-taken-count) → (let a = begin-of c .args in let m = c .before .before .count2 .result in
+    Taken (a .image .now) (a .table .now) (a .area .now) (a .fresh .now) (c .before .before .before .count .result) m (c .before .carried-mask .result) (c .taken-count .result + m))
+taken c = record {
+  lent = lent (c .before .before .before .before);
+  n-is = c .before .before .before .count .ensures .0;
+  m-is = c .before .before .count2 .ensures .0;
+  mask-is = c .before .carried-mask .ensures;
+  counted = omega (arith, c .taken-count .ensures .0);
+}
+
+lent-refusal-requires : tie.Need-lent-refusal-requires
+lent-refusal-requires c κs = search needs
 
 returns : tie.Need-returns
 returns c =
     let a = start-of (c .before) .args in
-    next-refused (a .image .now) (a .table .now) (a .area .now) (a .fresh .now) (a .out .now) _ (c .before .next-refusal .ensures) (c .if1 .taken)
+    next-refused (a .image .now) (a .table .now) (a .area .now) (a .fresh .now) (a .out .now) _
+    (next-lent _ _ _ _ (a .out .now) _ (c .before .lent-refusal .ensures) (c .if1 .taken)) (c .if1 .taken)
 
 count-requires : tie.Need-count-requires
 count-requires c κs = search needs
@@ -32,31 +45,59 @@ count-requires c κs = search needs
 count-requires-2 : tie.Need-count-requires-2
 count-requires-2 c κs = search needs
 
+carried-mask-requires : tie.Need-carried-mask-requires
+carried-mask-requires c κs =
+    let k = lent-shows _ _ _ _ (lent (c .before .before)) .0 in
+    let n = c .before .count .ensures .0 in
+    (k .cells-few, omega (arith, k .programs, n), omega (arith, k .sized, n))
+
+taken-count-requires : tie.Need-taken-count-requires
+taken-count-requires c κs = omega (arith, lent-shows _ _ _ _ (lent (c .before .before .before)) .0 .programs, c .before .before .count .ensures .0)
+
+add-programs : tie.Need-add-programs
+add-programs c = search needs
+
+size-refusal-requires : tie.Need-size-refusal-requires
+size-refusal-requires c κs = taken-sources (taken (c .before))
+
+same-length : tie.Need-same-length
+same-length c = search needs
+
+returns-2 : tie.Need-returns-2
+returns-2 c =
+    let k = c .before .before .before in
+    let a = begin-of k .args in
+    next-refused (a .image .now) (a .table .now) (a .area .now) (a .fresh .now) (a .out .now) _
+    (taken-size (taken k) (a .out .now) (c .before .size-refusal .ensures)) (c .if2 .taken)
+
 write-next-requires : tie.Need-write-next-requires
 write-next-requires c κs =
-    let e = c .before .before .before in
-    let a = start-of (e .before) .args in
-    next-ready (a .image .now) (a .table .now) (a .area .now) (a .fresh .now) (a .out .now) (passed e) _ _
-    (c .before .before .count .ensures .0) (c .before .count2 .ensures .0)
+    let s = c .before .before in
+    let k = taken (s .before .before) in
+    (taken-sources k, taken-fits k _ (s .size-refusal .ensures) (c .before .if2 .left))
 
 same-length-2 : tie.Need-same-length-2
 same-length-2 c = search needs
 
-returns-2 : tie.Need-returns-2
-returns-2 c =
-    let e = c .before .before .before .before .before .before in
-    let a = start-of (e .before) .args in
-    next-done (a .image .now) (a .table .now) (a .area .now) (a .fresh .now) (a .out .now) (passed e) _ _ (c .before .before .write-next .ensures)
+returns-3 : tie.Need-returns-3
+returns-3 c =
+    let e = c .before .before .before .before in
+    taken-done (taken (e .before .before .before)) _ (e .before .size-refusal .ensures) (e .if2 .left) (c .before .before .write-next .ensures)
 
 pub next-image-spec : {M : Type 1} → statement M
 next-image-spec =
     tie.close
     (tie.spec
-    next-refusal-requires
-    same-length
+    lent-refusal-requires
     returns
     count-requires
     count-requires-2
+    carried-mask-requires
+    taken-count-requires
+    add-programs
+    size-refusal-requires
+    same-length
+    returns-2
     write-next-requires
     same-length-2
-    returns-2)
+    returns-3)

@@ -1,109 +1,80 @@
--- Each writer begins where the one before it ended, so what stands at the front of the output grows from the header to the next image.
--- Assumes nothing.
-use mathlib.Core.Path.{_≡_}
-use mathlib.Core.Bool.{true, false}
-use mathlib.Core.List.{List}
-use Prim.Native.Nat.{ℕ, _+_, _<_}
+-- Each writer begins where the one before it ended: the header, the ends of both sources, the bytes of both. Assumes nothing.
+use mathlib.Core.Path.{_≡_, ap, _∙_}
+use mathlib.Core.List.{List, _++_}
+use Prim.Native.Nat.{ℕ}
 use native.Mathlib.Omega.{arith}
 use lib.ListN.{length}
 use borrow.Author.Needs.{needs}
+use Rattle.base.specs.Masks.{hasBit}
 use Rattle.image.specs.Limits.{headBytes}
-use Rattle.carry.specs.Joined.{joined}
-use Rattle.carry.specs.Next.{picked}
-use Rattle.carry.specs.Writing.{takes, Wrote}
-use Rattle.carry.proofs.Whole.{Sized, sized, all-taken, with-ends, with-all-ends, with-bytes, with-all-bytes, made}
-use Rattle.carry.proofs.Whole.{ends-room, then-ends, all-ends-room, then-all-ends, bytes-room, then-bytes, all-bytes-room, then-all-bytes}
+use Rattle.writer.specs.Joined.{imageOf}
+use Rattle.writer.specs.Picked.{picked}
+use Rattle.writer.specs.Writing.{Source, Ended}
+use Rattle.writer.proofs.Programs.{length-joined, length-image}
+use Rattle.writer.proofs.Whole.{Headed, first-room, second-room, ended-both, wrote-both, ends-room, bytes-room, image-wrote}
+use Rattle.carry.specs.Sources.{imageFrom}
+use Rattle.carry.proofs.Sources.{all-source, from-image, from-count, from-small}
 use Rattle.carry.proofs.write_next.Statement.{statement}
 use Rattle.carry.proofs.write_next.Tie as tie
 
--- ---- what the header is written from
-
 abbrev start-of : tie.After-rule → tie.Start
-start-of c = c .before .before .before .before .before .before .before
+start-of c = c .before .before .before .before .before .before
 
-abbrev out-of : tie.After-rule → List ℕ
-out-of c = start-of c .args .out .now
-
--- the programs that are carried, the fresh ones, and how many there are
+-- the programs of both sources
 abbrev old : tie.After-rule → List (List ℕ)
-old c = let a = start-of c .args in picked (takes false (a .cells) (a .area .now)) (a .image .now) (a .n)
+old c = let a = start-of c .args in picked (hasBit (a .mask)) (a .image .now) (a .n)
 
 abbrev new : tie.After-rule → List (List ℕ)
-new c = let a = start-of c .args in picked (takes true (a .cells) (a .area .now)) (a .fresh .now) (a .m)
+new c = let a = start-of c .args in picked (hasBit (c .before .before .all .result)) (a .fresh .now) (a .m)
 
-abbrev many : tie.After-rule → ℕ
-many c = c .before .before .count-taken .result + start-of c .args .m
+image-is : (c : tie.After-rule)
+    → (let a = start-of c .args in imageOf (c .rule .result) (old c ++ new c) ≡ imageFrom (a .image .now) (a .n) (a .mask) (a .fresh .now) (a .m))
+image-is c = from-image (start-of c .pre .0) (c .before .before .all .ensures) (c .rule .ensures)
 
-abbrev rule-of : tie.After-rule → ℕ
-rule-of c = c .rule .result
+count-is : (c : tie.After-rule) → start-of c .args .programs ≡ length (old c ++ new c)
+count-is c = from-count (start-of c .pre .0) (c .before .before .all .ensures)
 
-sizes : (c : tie.After-rule) → Sized (old c) (new c) (out-of c)
-sizes c = let s = start-of c in let a = s .args in sized (a .cells) (a .image .now) (a .n) (a .area .now) (a .fresh .now) (a .m) (a .out .now) (s .pre)
+fresh-source : (c : tie.After-rule) → (let a = start-of c .args in Source (a .fresh .now) (a .m) (c .before .before .all .result))
+fresh-source c = all-source (start-of c .pre .0) (c .before .before .all .ensures)
 
-same : (c : tie.After-rule) → many c ≡ length (old c) + length (new c)
-same c =
-    let a = start-of c .args in
-    omega (arith, c .before .before .count-taken .ensures .0, all-taken (a .cells) (a .area .now) (a .fresh .now) (a .m))
+-- ---- what stands after the header, and after the ends
 
-small : (c : tie.After-rule) → headBytes (many c) + length (joined (old c)) + length (joined (new c)) < 65536
-small c = omega (arith, sizes c .small, same c)
+abbrev header-at : tie.After-head-bytes → tie.After-put-header
+header-at c = c .before .before .before
 
--- ---- what stands at the front after each writer
-
-abbrev header-at : tie.After-put-ends → tie.After-put-header
-header-at c = c .before .before .before .before
-
-after-ends : (c : tie.After-put-ends)
-    → (let r = header-at c .before in Wrote (out-of r) 0 (with-ends (rule-of r) (old r) (new r) (many r)) (c .put-ends .last .0) (c .put-ends .result .to))
-after-ends c =
+headed : (c : tie.After-head-bytes) → (let h = header-at c in let r = h .before in
+    Headed (r .rule .result) (old r ++ new r) (start-of r .args .out .now) (h .put-header .last .0) (record { to = h .put-header .result; end = c .head-bytes .result }))
+headed c =
     let h = header-at c in
     let r = h .before in
-    then-ends (rule-of r) (old r) (new r) (many r) (out-of r) (sizes r .room) (small r) (h .put-header .last .0) (h .put-header .result)
-    (c .put-ends .last .0) (c .put-ends .result) (h .put-header .ensures) (c .put-ends .ensures)
+    record {
+      wrote = rw (← count-is r) (h .put-header .ensures);
+      end-is = c .head-bytes .ensures ∙ ap headBytes (count-is r);
+      fits = rw (image-is r) (start-of r .pre .1);
+      small = rw (image-is r) (from-small (start-of r .pre .0) (r .before .before .all .ensures));
+    }
+
+abbrev head-at : tie.After-put-ends → tie.After-head-bytes
+head-at c = c .before .before
 
 abbrev ends-at : tie.After-put-ends2 → tie.After-put-ends
 ends-at c = c .before .before .before .before
 
-after-all-ends : (c : tie.After-put-ends2)
-    → (let r = header-at (ends-at c) .before in Wrote (out-of r) 0 (with-all-ends (rule-of r) (old r) (new r) (many r)) (c .put-ends2 .last .0) (c .put-ends2 .result .to))
-after-all-ends c =
+ended : (c : tie.After-put-ends2) → (let k = head-at (ends-at c) in let h = header-at k in
+    Ended (h .put-header .last .0) (record { to = h .put-header .result; end = k .head-bytes .result }) (old (h .before) ++ new (h .before)) (c .put-ends2 .last .0) (c .put-ends2 .result))
+ended c =
     let e = ends-at c in
-    let r = header-at e .before in
-    then-all-ends (rule-of r) (old r) (new r) (many r) (out-of r) (sizes r .room) (small r) (e .put-ends .last .0) (e .put-ends .result)
-    (c .put-ends2 .last .0) (c .put-ends2 .result) (after-ends e) (e .put-ends .ensures .end-is) (c .put-ends2 .ensures)
+    let k = head-at e in
+    let r = header-at k .before in
+    ended-both (old r) (new r) (ends-room (headed k)) (e .put-ends .ensures) (c .put-ends2 .ensures)
 
 abbrev all-ends-at : tie.After-put-bodies → tie.After-put-ends2
 all-ends-at c = c .before .before .before .before
 
-abbrev rule-at : tie.After-put-bodies → tie.After-rule
-rule-at c = header-at (ends-at (all-ends-at c)) .before
-
-after-bytes : (c : tie.After-put-bodies)
-    → (let r = rule-at c in Wrote (out-of r) 0 (with-bytes (rule-of r) (old r) (new r) (many r)) (c .put-bodies .last .0) (c .put-bodies .result))
-after-bytes c =
-    let e = all-ends-at c in
-    let r = rule-at c in
-    then-bytes (rule-of r) (old r) (new r) (many r) (out-of r) (sizes r .room) (small r) (e .put-ends2 .last .0) (e .put-ends2 .result .to)
-    (c .put-bodies .last .0) (c .put-bodies .result) (after-all-ends e) (c .put-bodies .ensures)
-
-abbrev bytes-at : tie.After-put-bodies2 → tie.After-put-bodies
-bytes-at c = c .before .before .before .before
-
-after-all-bytes : (c : tie.After-put-bodies2)
-    → (let r = rule-at (bytes-at c) in Wrote (out-of r) 0 (with-all-bytes (rule-of r) (old r) (new r) (many r)) (c .put-bodies2 .last .0) (c .put-bodies2 .result))
-after-all-bytes c =
-    let b = bytes-at c in
-    let r = rule-at b in
-    then-all-bytes (rule-of r) (old r) (new r) (many r) (out-of r) (sizes r .room) (small r) (b .put-bodies .last .0) (b .put-bodies .result)
-    (c .put-bodies2 .last .0) (c .put-bodies2 .result) (after-bytes b) (c .put-bodies2 .ensures)
-
 -- ---- the needs
 
-count-taken-requires : tie.Need-count-taken-requires
-count-taken-requires c κs = search needs
-
-add-count : tie.Need-add-count
-add-count c = search needs
+all-requires : tie.Need-all-requires
+all-requires c κs = search needs
 
 rule-requires : tie.Need-rule-requires
 rule-requires c κs = search needs
@@ -111,69 +82,59 @@ rule-requires c κs = search needs
 put-header-requires : tie.Need-put-header-requires
 put-header-requires c κs =
     let p = start-of c .pre in
-    (omega (arith, sizes c .room), omega (arith, c .before .before .count-taken .ensures .1, p .carries .few, p .freshes .few))
+    (omega (arith, p .1, ap length (image-is c), length-image (c .rule .result) (old c ++ new c)), omega (arith, p .0 .few))
 
-mul-t18 : tie.Need-mul-t18
-mul-t18 c = search needs
-
-add-t19 : tie.Need-add-t19
-add-t19 c = search needs
+head-bytes-requires : tie.Need-head-bytes-requires
+head-bytes-requires c κs = search needs
 
 put-ends-requires : tie.Need-put-ends-requires
 put-ends-requires c κs =
-    let h = c .before .before .before in
-    let r = h .before in (
-      start-of r .pre .carries,
-      ends-room (rule-of r) (old r) (new r) (many r) (out-of r) (sizes r .room) (small r) (h .put-header .last .0) (h .put-header .result) (h .put-header .ensures),
-    )
+    let r = header-at (c .before) .before in
+    (start-of r .pre .0 .old, first-room (old r) (new r) (ends-room (headed (c .before))))
 
 put-ends-requires-2 : tie.Need-put-ends-requires-2
 put-ends-requires-2 c κs =
     let e = c .before .before .before in
-    let r = header-at e .before in (
-      start-of r .pre .freshes,
-      all-ends-room (rule-of r) (old r) (new r) (many r) (out-of r) (sizes r .room) (small r) (e .put-ends .last .0) (e .put-ends .result)
-          (after-ends e) (e .put-ends .ensures .end-is),
-    )
+    let r = header-at (head-at e) .before in
+    (fresh-source r, second-room (old r) (new r) (ends-room (headed (head-at e))) (e .put-ends .ensures))
 
 put-bodies-requires : tie.Need-put-bodies-requires
 put-bodies-requires c κs =
-    let e = c .before .before .before in
-    let r = header-at (ends-at e) .before in (
-      start-of r .pre .carries,
-      bytes-room (rule-of r) (old r) (new r) (many r) (out-of r) (sizes r .room) (small r) (e .put-ends2 .last .0) (e .put-ends2 .result .to) (after-all-ends e),
-    )
+    let d = c .before .before .before in
+    let k = head-at (ends-at d) in
+    let r = header-at k .before in
+    (start-of r .pre .0 .old, omega (arith, bytes-room (headed k) (ended d), length-joined (old r) (new r)))
 
 put-bodies-requires-2 : tie.Need-put-bodies-requires-2
 put-bodies-requires-2 c κs =
     let b = c .before .before .before in
-    let r = rule-at b in (
-      start-of r .pre .freshes,
-      all-bytes-room (rule-of r) (old r) (new r) (many r) (out-of r) (sizes r .room) (small r) (b .put-bodies .last .0) (b .put-bodies .result) (after-bytes b),
-    )
+    let d = all-ends-at b in
+    let k = head-at (ends-at d) in
+    let r = header-at k .before in
+    let w = b .put-bodies .ensures in
+    (fresh-source r, omega (arith, bytes-room (headed k) (ended d), length-joined (old r) (new r), w .next, w .long))
 
 same-length : tie.Need-same-length
 same-length c = search needs
 
 returns : tie.Need-returns
 returns c =
-    let b = c .before .before in
-    let r = rule-at (bytes-at b) in
-    let s = start-of r in
-    let a = s .args in
-    made (a .cells) (a .image .now) (a .n) (a .area .now) (a .fresh .now) (a .m) (a .out .now) (s .pre) (rule-of r) (many r)
-    (b .put-bodies2 .last .0) (b .put-bodies2 .result) (r .rule .ensures) (same r) (after-all-bytes b)
+    let last = c .before .before in
+    let b = last .before .before .before .before in
+    let d = all-ends-at b in
+    let k = head-at (ends-at d) in
+    let r = header-at k .before in
+    rw (← image-is r)
+    (image-wrote (headed k) (ended d) (wrote-both (old r) (new r) (bytes-room (headed k) (ended d)) (b .put-bodies .ensures) (last .put-bodies2 .ensures)))
 
 pub write-next-spec : {M : Type 1} → statement M
 write-next-spec =
     tie.close
     (tie.spec
-    count-taken-requires
-    add-count
+    all-requires
     rule-requires
     put-header-requires
-    mul-t18
-    add-t19
+    head-bytes-requires
     put-ends-requires
     put-ends-requires-2
     put-bodies-requires

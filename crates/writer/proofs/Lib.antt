@@ -1,0 +1,6 @@
+pub mod Cases
+pub mod Good
+pub mod Programs
+pub mod Unique
+pub mod Whole
+pub mod Writing

@@ -1,0 +1,199 @@
+-- Laws of lists of programs: how long they are, where they end, which of an image's pass. Assumes nothing.
+use mathlib.Core.Path.{_≡_, refl, sym, ap, _∙_}
+use mathlib.Core.Logic.{_⊎_, inl, inr}
+use mathlib.Core.Bool.{Bool, true, false, cond}
+use mathlib.Core.List.{List, [], _∷_, _++_, append-assoc, append-nil}
+use Prim.Native.Nat.{ℕ, zero, suc, _+_, _*_, _≤_, _<_}
+use native.Mathlib.Omega.{arith}
+use native.Mathlib.Numerals.{add-one}
+use lib.ListN.{length, getD, length-append, List·getD-append}
+use lib.Seq.{getD-at}
+use Rattle.base.specs.Words.{count}
+use Rattle.base.specs.Masks.{hasBit}
+use Rattle.base.proofs.Counts.{count-below}
+use Rattle.base.proofs.Numbers.{below}
+use Rattle.image.specs.Limits.{maxPrograms, maxProgramBytes, headBytes}
+use Rattle.image.specs.Image.{countOf, partOf, refusalOf}
+use Rattle.image.proofs.Laws.{lies, lies-short, accepted, few-programs}
+use Rattle.writer.specs.declared.Place.{Place}
+use Rattle.writer.specs.Joined.{number, joined, ends, offsets, imageOf}
+use Rattle.writer.specs.Picked.{pick, picked}
+use Rattle.writer.specs.Writing.{Wrote, Ended, EndRoom, Source}
+use Rattle.writer.proofs.Writing.{wrote-none, reach, turn-room, turn}
+
+-- ---- one after another
+
+pub joined-append : (ps qs : List (List ℕ)) → joined (ps ++ qs) ≡ joined ps ++ joined qs
+unfolding joined
+joined-append [] qs = refl
+joined-append (p ∷ ps) qs = rw (joined-append ps qs, append-assoc)
+
+pub length-joined : (ps qs : List (List ℕ)) → length (joined (ps ++ qs)) ≡ length (joined ps) + length (joined qs)
+length-joined ps qs = rw (joined-append ps qs, length-append)
+
+pub ends-append : (start : ℕ) (ps qs : List (List ℕ)) → ends start (ps ++ qs) ≡ ends start ps ++ ends (start + length (joined ps)) qs
+unfolding ends joined
+ends-append start [] qs = let e : start + 0 ≡ start = omega arith in rw e
+ends-append start (p ∷ ps) qs =
+    let e : start + length (p ++ joined ps) ≡ start + length p + length (joined ps) = rw length-append (omega arith) in
+    rw (e, ends-append (start + length p) ps qs, append-assoc)
+
+pub length-ends : (start : ℕ) (ps : List (List ℕ)) → length (ends start ps) ≡ 2 * length ps
+unfolding ends number
+length-ends start [] = refl
+length-ends start (p ∷ ps) = rw (length-append) (omega (arith, length-ends (start + length p) ps))
+
+pub length-number : (x : ℕ) → length (number x) ≡ 2
+unfolding number
+length-number x = refl
+
+pub joined-one : (p : List ℕ) → joined (p ∷ []) ≡ p
+unfolding joined
+joined-one p = append-nil p
+
+pub joined-none : joined [] ≡ []
+unfolding joined
+joined-none = refl
+
+pub length-image : (rule : ℕ) (ps : List (List ℕ)) → length (imageOf rule ps) ≡ headBytes (length ps) + length (joined ps)
+unfolding imageOf offsets
+length-image rule ps = simp (length-append, length-number, length-ends) (omega arith)
+
+-- ---- the ends of none, and of one
+
+pub ended-none : (d : List ℕ) (place : Place) → Ended d place [] d place
+unfolding ends joined
+ended-none d place = record { wrote = wrote-none d (place .to); end-is = omega arith }
+
+pub ended-one : {d : List ℕ} {place : Place} {part after : List ℕ} {to end : ℕ} → Wrote d (place .to) (number end) after to → end ≡ place .end + length part
+    → Ended d place (part ∷ []) after (record { to = to; end = end })
+unfolding ends
+ended-one {part = part} w e = record { wrote = rw (append-nil, ← e) w; end-is = rw (joined-one part) e }
+
+-- ---- the programs that pass
+
+module _ (test : ℕ → Bool) (image : List ℕ) where
+  pub picked-none : picked test image 0 ≡ []
+  unfolding picked
+  picked-none = refl
+
+  pub picked-more : (k : ℕ) → picked test image (k + 1) ≡ picked test image k ++ pick test image k
+  unfolding picked
+  picked-more k = rw add-one
+
+  pub pick-in : (k : ℕ) → test k ≡ true → pick test image k ≡ partOf image k ∷ []
+  unfolding pick
+  pick-in k e = rw e
+
+  pub pick-out : (k : ℕ) → test k ≡ false → pick test image k ≡ []
+  unfolding pick
+  pick-out k e = rw e
+
+  -- how many there are
+  pub picked-count : (k : ℕ) → length (picked test image k) ≡ count test k
+  unfolding picked pick count
+  picked-count zero = refl
+  picked-count (suc k) = rw (length-append, picked-count k) (go (test k))
+    where
+      go : (b : Bool) → count test k + length (cond b (partOf image k ∷ []) []) ≡ cond b 1 0 + count test k
+      go true = omega arith
+      go false = omega arith
+
+  -- and where one that passes stands: as many stand before it as pass before it
+  pub picked-at : (k n : ℕ) → k < n → test k ≡ true → getD (picked test image n) (count test k) [] ≡ partOf image k
+  unfolding picked
+  picked-at k zero h e = absurd (omega arith)
+  picked-at k (suc n) h e = go (below k n h) (picked-at k n)
+    where
+      go : (k ≡ n) ⊎ (k < n) → (k < n → test k ≡ true → getD (picked test image n) (count test k) [] ≡ partOf image k)
+          → getD (picked test image n ++ pick test image n) (count test k) [] ≡ partOf image k
+      go (inl q) ih = rw (← q, pick-in k e) (getD-at (picked test image k) (partOf image k) [] [] (count test k) (picked-count k))
+      go (inr q) ih =
+          List·getD-append (picked test image n) (pick test image n) [] (count test k) (omega (arith, count-below test n k q e, picked-count n)) ∙ ih q e
+
+  -- their bytes and their ends grow with each
+  abbrev bodies : ℕ → List ℕ
+  bodies k = joined (picked test image k)
+
+  abbrev body : ℕ → List ℕ
+  body k = joined (pick test image k)
+
+  pub bodies-none : bodies 0 ≡ []
+  unfolding picked joined
+  bodies-none = refl
+
+  pub bodies-more : (k : ℕ) → bodies (k + 1) ≡ bodies k ++ body k
+  bodies-more k = rw (picked-more k) (joined-append (picked test image k) (pick test image k))
+
+  ends-more : (start k : ℕ)
+      → ends start (picked test image (k + 1)) ≡ ends start (picked test image k) ++ ends (start + length (bodies k)) (pick test image k)
+  ends-more start k = rw (picked-more k) (ends-append start (picked test image k) (pick test image k))
+
+  -- a turn of the loop that writes bytes, and of the one that writes ends
+  module _ {d : List ℕ} {at i n : ℕ} {out : List ℕ} {to : ℕ} (h : Wrote d at (bodies i) out to) (room : at + length (bodies n) ≤ length d) (low : i < n) where
+    pub body-room : to + length (body i) ≤ length out
+    body-room = turn-room bodies body bodies-more h room low
+
+    pub body-turn : {out′ : List ℕ} {to′ : ℕ} → Wrote out to (body i) out′ to′ → Wrote d at (bodies (i + 1)) out′ to′
+    body-turn = turn bodies body bodies-more h room low
+
+  module _ {d : List ℕ} {place : Place} {i n : ℕ} {out : List ℕ} {at : Place} (h : Ended d place (picked test image i) out at)
+      (room : EndRoom d place (picked test image n)) (low : i < n) where
+    abbrev ends-to : ℕ → List ℕ
+    ends-to k = ends (place .end) (picked test image k)
+
+    abbrev end-of : ℕ → List ℕ
+    end-of k = ends (place .end + length (bodies k)) (pick test image k)
+
+    pub end-room : EndRoom out at (pick test image i)
+    end-room = record {
+      to-fits = omega (
+        arith,
+        room .to-fits,
+        h .wrote .next,
+        h .wrote .long,
+        reach ends-to end-of (ends-more (place .end)) i n low,
+        length-ends (place .end) (picked test image i),
+        length-ends (place .end) (picked test image n),
+        length-ends (place .end + length (bodies i)) (pick test image i),
+      );
+      end-fits = omega (arith, room .end-fits, h .end-is, reach bodies body bodies-more i n low);
+    }
+
+    pub end-turn : {out′ : List ℕ} {at′ : Place} → Ended out at (pick test image i) out′ at′ → Ended d place (picked test image (i + 1)) out′ at′
+    end-turn k = record {
+      wrote = turn ends-to end-of (ends-more (place .end)) (h .wrote) (omega (arith, room .to-fits, length-ends (place .end) (picked test image n))) low
+          (rw (h .end-is) at (k .wrote));
+      end-is = rw (bodies-more i, length-append) (omega (arith, h .end-is, k .end-is));
+    }
+
+-- they depend on what passes below n alone
+pub picked-ext : (p q : ℕ → Bool) (image : List ℕ) (n : ℕ) → ((k : ℕ) → k < n → p k ≡ q k) → picked p image n ≡ picked q image n
+unfolding picked pick
+picked-ext p q image zero h = refl
+picked-ext p q image (suc n) h = rw (picked-ext p q image n (λ k l. h k (omega arith)), h n (omega arith))
+
+-- ---- a source
+
+-- the programs of a good image, whichever the mask has
+pub good-source : (image : List ℕ) → refusalOf image ≡ 0 → (n : ℕ) → n ≡ countOf image → (mask : ℕ) → Source image n mask
+good-source image good n e mask =
+    let g = accepted image good in
+    record { few = omega (arith, few-programs image (g .header)); lies = λ k l b. lies image (g .offsets) k (omega arith) }
+
+-- a program of it is no longer than a program may be
+
+module _ {image : List ℕ} {n mask : ℕ} (s : Source image n mask) where
+  pub pick-short : (k : ℕ) → k < n → length (joined (pick (hasBit mask) image k)) ≤ maxProgramBytes
+  unfolding pick
+  pick-short k h = go (hasBit mask k) refl
+    where
+      go : (b : Bool) → hasBit mask k ≡ b → length (joined (cond b (partOf image k ∷ []) [])) ≤ maxProgramBytes
+      go true e = rw joined-one (lies-short image k (s .lies k h e))
+      go false e = omega (arith, ap length joined-none)
+
+  pub picked-short : (k : ℕ) → k ≤ n → length (joined (picked (hasBit mask) image k)) ≤ maxProgramBytes * k
+  unfolding picked
+  picked-short zero h = omega (arith, ap length joined-none)
+  picked-short (suc k) h =
+      omega (arith, length-joined (picked (hasBit mask) image k) (pick (hasBit mask) image k), picked-short k (omega arith), pick-short k (omega arith))

@@ -1,0 +1,4 @@
+pub mod Joined
+pub mod Picked
+pub mod Writing
+pub mod Opened
