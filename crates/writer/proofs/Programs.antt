@@ -3,7 +3,7 @@ use mathlib.Core.Path.{_≡_, refl, sym, ap, _∙_}
 use mathlib.Core.Logic.{_⊎_, inl, inr}
 use mathlib.Core.Bool.{Bool, true, false, cond}
 use mathlib.Core.List.{List, [], _∷_, _++_, append-assoc, append-nil}
-use Prim.Native.Nat.{ℕ, zero, suc, _+_, _*_, _≤_, _<_}
+use Prim.Native.Nat.{ℕ, zero, suc, _+_, _-_, _*_, _≤_, _<_}
 use native.Mathlib.Omega.{arith}
 use native.Mathlib.Numerals.{add-one}
 use lib.ListN.{length, getD, length-append, List·getD-append}
@@ -18,8 +18,8 @@ use Rattle.image.proofs.Laws.{lies, lies-short, accepted, few-programs}
 use Rattle.writer.specs.declared.Place.{Place}
 use Rattle.writer.specs.Joined.{number, joined, ends, offsets, imageOf}
 use Rattle.writer.specs.Picked.{pick, picked}
-use Rattle.writer.specs.Writing.{Wrote, Ended, EndRoom, Source}
-use Rattle.writer.proofs.Writing.{wrote-none, reach, turn-room, turn}
+use Rattle.writer.specs.Writing.{Wrote, Ended, EndRoom, BodyRoom, Source}
+use Rattle.writer.proofs.Writing.{wrote-none, wrote-more}
 
 -- ---- one after another
 
@@ -70,6 +70,37 @@ pub ended-one : {d : List ℕ} {place : Place} {part after : List ℕ} {to end :
 unfolding ends
 ended-one {part = part} w e = record { wrote = rw (append-nil, ← e) w; end-is = rw (joined-one part) e }
 
+-- ---- the ends of ps and then those of qs; and their bytes
+
+module _ (ps qs : List (List ℕ)) {d : List ℕ} {place : Place} (room : EndRoom d place (ps ++ qs)) where
+  pub first-room : EndRoom d place ps
+  first-room = record { to-fits = omega (arith, room .to-fits, length-append ps qs); end-fits = omega (arith, room .end-fits, length-joined ps qs) }
+
+  module _ {b : List ℕ} {r : Place} (h : Ended d place ps b r) where
+    pub second-room : EndRoom b r qs
+    second-room = record {
+      to-fits = omega (arith, room .to-fits, length-append ps qs, h .wrote .next, h .wrote .long, length-ends (place .end) ps);
+      end-fits = omega (arith, room .end-fits, length-joined ps qs, h .end-is);
+    }
+
+    pub ended-both : {c : List ℕ} {s : Place} → Ended b r qs c s → Ended d place (ps ++ qs) c s
+    ended-both k = record {
+      wrote = rw (ends-append (place .end) ps qs, ← h .end-is)
+          (wrote-more (h .wrote) (k .wrote) (simp length-ends (omega (arith, room .to-fits, length-append ps qs))));
+      end-is = rw (length-joined ps qs) (omega (arith, h .end-is, k .end-is));
+    }
+
+module _ (ps qs : List (List ℕ)) {d : List ℕ} {at : ℕ} (room : BodyRoom d at (ps ++ qs)) where
+  pub first-fits : BodyRoom d at ps
+  first-fits = record { fits = omega (arith, room .fits, length-joined ps qs) }
+
+  module _ {b : List ℕ} {r : ℕ} (h : Wrote d at (joined ps) b r) where
+    pub second-fits : BodyRoom b r qs
+    second-fits = record { fits = omega (arith, room .fits, length-joined ps qs, h .next, h .long) }
+
+    pub wrote-both : {c : List ℕ} {s : ℕ} → Wrote b r (joined qs) c s → Wrote d at (joined (ps ++ qs)) c s
+    wrote-both k = rw (joined-append ps qs) (wrote-more h k (omega (arith, room .fits, length-joined ps qs)))
+
 -- ---- the programs that pass
 
 module _ (test : ℕ → Bool) (image : List ℕ) where
@@ -111,61 +142,47 @@ module _ (test : ℕ → Bool) (image : List ℕ) where
       go (inr q) ih =
           List·getD-append (picked test image n) (pick test image n) [] (count test k) (omega (arith, count-below test n k q e, picked-count n)) ∙ ih q e
 
-  -- their bytes and their ends grow with each
-  abbrev bodies : ℕ → List ℕ
-  bodies k = joined (picked test image k)
+  -- what is picked among the first stands at the front
+  rest-of : (k j : ℕ) → (rest : List (List ℕ)) × (picked test image (k + j) ≡ picked test image k ++ rest)
+  unfolding picked
+  rest-of k zero = ([], let e : k + 0 ≡ k = omega arith in rw (e, append-nil))
+  rest-of k (suc j) =
+      let t = rest-of k j in
+      let e : k + suc j ≡ suc (k + j) = omega arith in
+      (t .0 ++ pick test image (k + j), rw (e, t .1, append-assoc))
 
-  abbrev body : ℕ → List ℕ
-  body k = joined (pick test image k)
+  -- a turn of the loop that writes ends, and of the one that writes bytes
+  module _ {i n : ℕ} (low : i < n) where
+    abbrev next : List (List ℕ)
+    next = picked test image i ++ pick test image i
 
-  pub bodies-none : bodies 0 ≡ []
-  unfolding picked joined
-  bodies-none = refl
+    rest : (ps : List (List ℕ)) × (picked test image n ≡ next ++ ps)
+    rest =
+        let t = rest-of (i + 1) (n - (i + 1)) in
+        let e : n ≡ i + 1 + (n - (i + 1)) = omega arith in
+        (t .0, ap (picked test image) e ∙ t .1 ∙ ap (λ (x : List (List ℕ)). x ++ t .0) (picked-more i))
 
-  pub bodies-more : (k : ℕ) → bodies (k + 1) ≡ bodies k ++ body k
-  bodies-more k = rw (picked-more k) (joined-append (picked test image k) (pick test image k))
+    module _ {d : List ℕ} {place : Place} {out : List ℕ} {at : Place} (h : Ended d place (picked test image i) out at)
+        (room : EndRoom d place (picked test image n)) where
+      next-room : EndRoom d place next
+      next-room = first-room next (rest .0) (rw (rest .1) at room)
 
-  ends-more : (start k : ℕ)
-      → ends start (picked test image (k + 1)) ≡ ends start (picked test image k) ++ ends (start + length (bodies k)) (pick test image k)
-  ends-more start k = rw (picked-more k) (ends-append start (picked test image k) (pick test image k))
+      pub end-room : EndRoom out at (pick test image i)
+      end-room = second-room (picked test image i) (pick test image i) next-room h
 
-  -- a turn of the loop that writes bytes, and of the one that writes ends
-  module _ {d : List ℕ} {at i n : ℕ} {out : List ℕ} {to : ℕ} (h : Wrote d at (bodies i) out to) (room : at + length (bodies n) ≤ length d) (low : i < n) where
-    pub body-room : to + length (body i) ≤ length out
-    body-room = turn-room bodies body bodies-more h room low
+      pub end-turn : {out′ : List ℕ} {at′ : Place} → Ended out at (pick test image i) out′ at′ → Ended d place (picked test image (i + 1)) out′ at′
+      end-turn k = rw (picked-more i) (ended-both (picked test image i) (pick test image i) next-room h k)
 
-    pub body-turn : {out′ : List ℕ} {to′ : ℕ} → Wrote out to (body i) out′ to′ → Wrote d at (bodies (i + 1)) out′ to′
-    body-turn = turn bodies body bodies-more h room low
+    module _ {d : List ℕ} {at : ℕ} {out : List ℕ} {to : ℕ} (h : Wrote d at (joined (picked test image i)) out to)
+        (room : BodyRoom d at (picked test image n)) where
+      next-fits : BodyRoom d at next
+      next-fits = first-fits next (rest .0) (rw (rest .1) at room)
 
-  module _ {d : List ℕ} {place : Place} {i n : ℕ} {out : List ℕ} {at : Place} (h : Ended d place (picked test image i) out at)
-      (room : EndRoom d place (picked test image n)) (low : i < n) where
-    abbrev ends-to : ℕ → List ℕ
-    ends-to k = ends (place .end) (picked test image k)
+      pub body-room : BodyRoom out to (pick test image i)
+      body-room = second-fits (picked test image i) (pick test image i) next-fits h
 
-    abbrev end-of : ℕ → List ℕ
-    end-of k = ends (place .end + length (bodies k)) (pick test image k)
-
-    pub end-room : EndRoom out at (pick test image i)
-    end-room = record {
-      to-fits = omega (
-        arith,
-        room .to-fits,
-        h .wrote .next,
-        h .wrote .long,
-        reach ends-to end-of (ends-more (place .end)) i n low,
-        length-ends (place .end) (picked test image i),
-        length-ends (place .end) (picked test image n),
-        length-ends (place .end + length (bodies i)) (pick test image i),
-      );
-      end-fits = omega (arith, room .end-fits, h .end-is, reach bodies body bodies-more i n low);
-    }
-
-    pub end-turn : {out′ : List ℕ} {at′ : Place} → Ended out at (pick test image i) out′ at′ → Ended d place (picked test image (i + 1)) out′ at′
-    end-turn k = record {
-      wrote = turn ends-to end-of (ends-more (place .end)) (h .wrote) (omega (arith, room .to-fits, length-ends (place .end) (picked test image n))) low
-          (rw (h .end-is) at (k .wrote));
-      end-is = rw (bodies-more i, length-append) (omega (arith, h .end-is, k .end-is));
-    }
+      pub body-turn : {out′ : List ℕ} {to′ : ℕ} → Wrote out to (joined (pick test image i)) out′ to′ → Wrote d at (joined (picked test image (i + 1))) out′ to′
+      body-turn k = rw (picked-more i) (wrote-both (picked test image i) (pick test image i) next-fits h k)
 
 -- they depend on what passes below n alone
 pub picked-ext : (p q : ℕ → Bool) (image : List ℕ) (n : ℕ) → ((k : ℕ) → k < n → p k ≡ q k) → picked p image n ≡ picked q image n

@@ -1,4 +1,4 @@
--- An image is written from its first byte to its last: the header, the ends, the bytes; the programs may come from two sources. Assumes nothing.
+-- An image is written from its first byte to its last: the header, the ends, the bytes. Assumes nothing.
 use mathlib.Core.Path.{_≡_}
 use mathlib.Core.List.{List, _++_, append-assoc}
 use Prim.Native.Nat.{ℕ, _+_, _≤_, _<_}
@@ -7,33 +7,9 @@ use lib.ListN.{length, length-append}
 use Rattle.image.specs.Limits.{headBytes, minBytes}
 use Rattle.writer.specs.declared.Place.{Place}
 use Rattle.writer.specs.Joined.{joined, ends, offsets, imageOf}
-use Rattle.writer.specs.Writing.{Wrote, header, Ended, EndRoom}
+use Rattle.writer.specs.Writing.{Wrote, header, Ended, EndRoom, BodyRoom}
 use Rattle.writer.proofs.Writing.{wrote-more}
-use Rattle.writer.proofs.Programs.{joined-append, length-joined, ends-append, length-ends, length-number, length-image}
-
--- ---- the ends of ps and then those of qs; their bytes
-
-module _ (ps qs : List (List ℕ)) {d : List ℕ} {place : Place} (room : EndRoom d place (ps ++ qs)) where
-  pub first-room : EndRoom d place ps
-  first-room = record { to-fits = omega (arith, room .to-fits, length-append ps qs); end-fits = omega (arith, room .end-fits, length-joined ps qs) }
-
-  module _ {b : List ℕ} {r : Place} (h : Ended d place ps b r) where
-    pub second-room : EndRoom b r qs
-    second-room = record {
-      to-fits = omega (arith, room .to-fits, length-append ps qs, h .wrote .next, h .wrote .long, length-ends (place .end) ps);
-      end-fits = omega (arith, room .end-fits, length-joined ps qs, h .end-is);
-    }
-
-    pub ended-both : {c : List ℕ} {s : Place} → Ended b r qs c s → Ended d place (ps ++ qs) c s
-    ended-both k = record {
-      wrote = rw (ends-append (place .end) ps qs, ← h .end-is)
-          (wrote-more (h .wrote) (k .wrote) (simp length-ends (omega (arith, room .to-fits, length-append ps qs))));
-      end-is = rw (length-joined ps qs) (omega (arith, h .end-is, k .end-is));
-    }
-
-pub wrote-both : (ps qs : List (List ℕ)) {d : List ℕ} {at : ℕ} {b : List ℕ} {r : ℕ} {c : List ℕ} {s : ℕ} → at + length (joined (ps ++ qs)) ≤ length d
-    → Wrote d at (joined ps) b r → Wrote b r (joined qs) c s → Wrote d at (joined (ps ++ qs)) c s
-wrote-both ps qs room h k = rw (joined-append ps qs) (wrote-more h k (omega (arith, room, length-joined ps qs)))
+use Rattle.writer.proofs.Programs.{length-ends, length-number, length-image}
 
 -- ---- the image of xs
 
@@ -56,19 +32,10 @@ module _ {rule : ℕ} {xs : List (List ℕ)} {out o : List ℕ} {place : Place} 
   }
 
   module _ {o′ : List ℕ} {r : Place} (e : Ended o place xs o′ r) where
-    pub bytes-room : r .to + length (joined xs) ≤ length o′
-    bytes-room = omega (
-      arith,
-      ends-room .to-fits,
-      e .wrote .next,
-      e .wrote .long,
-      length-ends (place .end) xs,
-      h .wrote .next,
-      h .wrote .long,
-      header-length (length xs) rule,
-      h .fits,
-      length-image rule xs,
-    )
+    pub bytes-room : BodyRoom o′ (r .to) xs
+    bytes-room = record {
+      fits = omega (arith, e .wrote .next, e .wrote .long, length-ends (place .end) xs, h .wrote .next, h .wrote .long, header-length (length xs) rule, h .fits, length-image rule xs);
+    }
 
     pub image-wrote : {o″ : List ℕ} {s : ℕ} → Wrote o′ (r .to) (joined xs) o″ s → Wrote out 0 (imageOf rule xs) o″ s
     unfolding imageOf offsets header

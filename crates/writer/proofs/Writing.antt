@@ -1,13 +1,11 @@
 -- Laws of writing one thing after another. Assumes nothing.
 use mathlib.Core.Path.{_≡_, refl, sym, ap, _∙_}
-use mathlib.Core.Logic.{_⊎_, inl, inr}
 use mathlib.Core.List.{List, [], _∷_, _++_, append-assoc, append-nil}
-use Prim.Native.Nat.{ℕ, zero, suc, _+_, _≤_, _<_}
+use Prim.Native.Nat.{ℕ, _+_, _≤_, _<_}
 use native.Mathlib.Omega.{arith}
 use native.Mathlib.Numerals.{add-one}
 use lib.ListN.{length, getD, set, take, drop, length-set, length-append, take-append-drop}
 use lib.Seq.{length-take-le, take-at, drop-at, drop-drop, sets-eq, paste, paste-suc, take-length}
-use Rattle.base.proofs.Numbers.{below}
 use Rattle.writer.specs.Writing.{pasted, Wrote}
 
 module _ (d : List ℕ) (at : ℕ) (w : List ℕ) (room : at + length w ≤ length d) where
@@ -46,26 +44,6 @@ wrote-more {a} {at} {w} {b} {r} {x} {c} {s} h k room =
       long = k .long ∙ h .long;
       next = rw length-append (omega (arith, h .next, k .next));
     }
-
--- a loop's turn: w k are the bytes of its first k turns, x k those of turn k
-module _ (w x : ℕ → List ℕ) (more : (k : ℕ) → w (k + 1) ≡ w k ++ x k) where
-  pub reach : (k n : ℕ) → k < n → length (w k) + length (x k) ≤ length (w n)
-  reach k zero h = absurd (omega arith)
-  reach k (suc n) h = go (below k n h) (reach k n)
-    where
-      next : (i : ℕ) → length (w (suc i)) ≡ length (w i) + length (x i)
-      next i = ap (λ (j : ℕ). length (w j)) (sym (add-one i)) ∙ ap length (more i) ∙ length-append (w i) (x i)
-
-      go : (k ≡ n) ⊎ (k < n) → (k < n → length (w k) + length (x k) ≤ length (w n)) → length (w k) + length (x k) ≤ length (w (suc n))
-      go (inl q) ih = rw q (omega (arith, next n))
-      go (inr q) ih = omega (arith, next n, ih q)
-
-  module _ {d : List ℕ} {at i n : ℕ} {out : List ℕ} {to : ℕ} (h : Wrote d at (w i) out to) (room : at + length (w n) ≤ length d) (low : i < n) where
-    pub turn-room : to + length (x i) ≤ length out
-    turn-room = omega (arith, h .next, h .long, reach i n low)
-
-    pub turn : {out′ : List ℕ} {to′ : ℕ} → Wrote out to (x i) out′ to′ → Wrote d at (w (i + 1)) out′ to′
-    turn k = rw (more i) (wrote-more h k (omega (arith, reach i n low)))
 
 -- two bytes; and a copy, one byte a turn
 pub wrote-pair : (d : List ℕ) (at x y : ℕ) → at + 2 ≤ length d → Wrote d at (x ∷ y ∷ []) (set (set d at x) (at + 1) y) (at + 2)

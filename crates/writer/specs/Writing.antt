@@ -28,10 +28,13 @@ pub record Ended (before : List ℕ) (place : Place) (ps : List (List ℕ)) (aft
   pub wrote : Wrote before (place .to) (ends (place .end) ps) after (r .to)
   pub end-is : r .end ≡ place .end + length (joined ps)
 
--- there is room for them
+-- there is room for them, and for their bytes
 pub record EndRoom (out : List ℕ) (place : Place) (ps : List (List ℕ)) : Type 0 where
   pub to-fits : place .to + 2 * length ps ≤ length out
   pub end-fits : place .end + length (joined ps) < 65536
+
+pub record BodyRoom (out : List ℕ) (at : ℕ) (ps : List (List ℕ)) : Type 0 where
+  pub fits : at + length (joined ps) ≤ length out
 
 -- the programs of an image that a mask has, of the first n: each of them lies in the image, whatever stands between them
 pub record Source (image : List ℕ) (n mask : ℕ) : Type 0 where

@@ -10,7 +10,7 @@ ghost use Rattle.base.specs.Masks.{wordBits, hasBit, maskOf};
 ghost use Rattle.image.specs.Limits.{maxPrograms, maxProgramBytes, minBytes};
 ghost use Rattle.writer.specs.Joined.{number, joined};
 ghost use Rattle.writer.specs.Picked.{pick, picked};
-ghost use Rattle.writer.specs.Writing.{Wrote, header, Ended, EndRoom, Source};
+ghost use Rattle.writer.specs.Writing.{Wrote, header, Ended, EndRoom, BodyRoom, Source};
 
 // Where the next offset goes, and where the last program placed ends.
 pub struct Place {
@@ -144,7 +144,7 @@ pub fn put_ends(out: &mut [u8], place: Place, image: &[u8], n: usize, mask: u64)
 
 // The bytes of the programs that the mask has, one program after another.
 pub fn put_bodies(out: &mut [u8], at: usize, image: &[u8], n: usize, mask: u64) -> usize
-    requires { ⌜ Source (now image) n mask × (at + length (joined (picked (hasBit mask) (now image) n)) ≤ length (now out)) ⌝ }
+    requires { ⌜ Source (now image) n mask × BodyRoom (now out) at (picked (hasBit mask) (now image) n) ⌝ }
     ensures { λ r. ⌜ Wrote (now (out .entry)) at (joined (picked (hasBit mask) (now (image .entry)) n)) (now (out .exit)) r ⌝ }
 {
     let mut to = at;

@@ -10,8 +10,8 @@ use Rattle.image.specs.Limits.{headBytes}
 use Rattle.writer.specs.Joined.{imageOf}
 use Rattle.writer.specs.Picked.{picked}
 use Rattle.writer.specs.Writing.{Source, Ended}
-use Rattle.writer.proofs.Programs.{length-joined, length-image}
-use Rattle.writer.proofs.Whole.{Headed, first-room, second-room, ended-both, wrote-both, ends-room, bytes-room, image-wrote}
+use Rattle.writer.proofs.Programs.{length-image, first-room, second-room, ended-both, first-fits, second-fits, wrote-both}
+use Rattle.writer.proofs.Whole.{Headed, ends-room, bytes-room, image-wrote}
 use Rattle.carry.specs.Sources.{imageFrom}
 use Rattle.carry.proofs.Sources.{all-source, from-image, from-count, from-small}
 use Rattle.carry.proofs.write_next.Statement.{statement}
@@ -103,7 +103,7 @@ put-bodies-requires c κs =
     let d = c .before .before .before in
     let k = head-at (ends-at d) in
     let r = header-at k .before in
-    (start-of r .pre .0 .old, omega (arith, bytes-room (headed k) (ended d), length-joined (old r) (new r)))
+    (start-of r .pre .0 .old, first-fits (old r) (new r) (bytes-room (headed k) (ended d)))
 
 put-bodies-requires-2 : tie.Need-put-bodies-requires-2
 put-bodies-requires-2 c κs =
@@ -111,8 +111,7 @@ put-bodies-requires-2 c κs =
     let d = all-ends-at b in
     let k = head-at (ends-at d) in
     let r = header-at k .before in
-    let w = b .put-bodies .ensures in
-    (fresh-source r, omega (arith, bytes-room (headed k) (ended d), length-joined (old r) (new r), w .next, w .long))
+    (fresh-source r, second-fits (old r) (new r) (bytes-room (headed k) (ended d)) (b .put-bodies .ensures))
 
 same-length : tie.Need-same-length
 same-length c = search needs

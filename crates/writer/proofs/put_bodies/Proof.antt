@@ -9,7 +9,7 @@ use Rattle.writer.specs.Joined.{joined}
 use Rattle.writer.specs.Picked.{picked}
 use Rattle.writer.specs.Writing.{Wrote}
 use Rattle.writer.proofs.Writing.{wrote-none}
-use Rattle.writer.proofs.Programs.{bodies-none, body-room, body-turn}
+use Rattle.writer.proofs.Programs.{joined-none, picked-none, body-room, body-turn}
 use Rattle.writer.proofs.put_bodies.Statement.{statement}
 use Rattle.writer.proofs.put_bodies.Tie as tie
 
@@ -23,7 +23,7 @@ abbrev start-of : tie.At-loop Inv-loop μ-loop → tie.Start Inv-loop μ-loop
 start-of c = c .before .before .before
 
 loop-holds : tie.Need-loop-holds Inv-loop μ-loop
-loop-holds c = let a = c .before .before .args in (search needs, rw bodies-none (wrote-none (a .out .now) (a .at)))
+loop-holds c = let a = c .before .before .args in (search needs, rw (picked-none, joined-none) (wrote-none (a .out .now) (a .at)))
 
 taken-part-requires : tie.Need-taken-part-requires Inv-loop μ-loop
 taken-part-requires c κs = (start-of (c .before) .pre .0, omega arith)
@@ -32,8 +32,8 @@ copy-part-requires : tie.Need-copy-part-requires Inv-loop μ-loop
 copy-part-requires c κs =
     let h = c .before .before .before in
     let s = start-of h in
-    let room = body-room (hasBit (s .args .mask)) (s .args .image .now) (h .loop .inv .1) (s .pre .1) (omega arith) in
-    omega (arith, room, ap length (c .before .taken-part .ensures))
+    let room = body-room (hasBit (s .args .mask)) (s .args .image .now) (omega arith) (h .loop .inv .1) (s .pre .1) in
+    omega (arith, room .fits, ap length (c .before .taken-part .ensures))
 
 add-i : tie.Need-add-i Inv-loop μ-loop
 add-i c = search needs
@@ -47,7 +47,7 @@ loop-again c =
     let p = c .before .before .before .before in
     let h = p .before .before in
     let s = start-of h in
-    (search needs, body-turn (hasBit (s .args .mask)) (s .args .image .now) (h .loop .inv .1) (s .pre .1) (omega arith) (rw (p .taken-part .ensures) at (u .ensures)))
+    (search needs, body-turn (hasBit (s .args .mask)) (s .args .image .now) (omega arith) (h .loop .inv .1) (s .pre .1) (rw (p .taken-part .ensures) at (u .ensures)))
 
 same-length : tie.Need-same-length Inv-loop μ-loop
 same-length c = search needs

@@ -33,7 +33,7 @@ put-end-requires c κs =
     let a = s .args in (
       s .pre .0,
       omega arith,
-      end-room (hasBit (a .mask)) (a .image .now) (l .inv .1) (s .pre .1) (omega arith),
+      end-room (hasBit (a .mask)) (a .image .now) (omega arith) (l .inv .1) (s .pre .1),
     )
 
 add-i : tie.Need-add-i Inv-loop μ-loop
@@ -49,7 +49,7 @@ loop-again c =
     let l = h .loop in
     let s = start-of h in
     let a = s .args in
-    (search needs, end-turn (hasBit (a .mask)) (a .image .now) (l .inv .1) (s .pre .1) (omega arith) (u .ensures))
+    (search needs, end-turn (hasBit (a .mask)) (a .image .now) (omega arith) (l .inv .1) (s .pre .1) (u .ensures))
 
 same-length : tie.Need-same-length Inv-loop μ-loop
 same-length c = search needs

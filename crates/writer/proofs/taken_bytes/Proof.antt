@@ -2,12 +2,12 @@
 use mathlib.Core.Path.{_≡_, sym, ap}
 use Prim.Native.Nat.{_≤_, _-_}
 use native.Mathlib.Omega.{arith}
-use lib.ListN.{length, length-append}
+use lib.ListN.{length}
 use borrow.Author.Needs.{needs}
 use Rattle.base.specs.Masks.{hasBit}
 use Rattle.writer.specs.Joined.{joined}
 use Rattle.writer.specs.Picked.{picked}
-use Rattle.writer.proofs.Programs.{bodies-none, bodies-more, pick-short, picked-short}
+use Rattle.writer.proofs.Programs.{joined-none, length-joined, picked-none, picked-more, pick-short, picked-short}
 use Rattle.writer.proofs.taken_bytes.Statement.{statement}
 use Rattle.writer.proofs.taken_bytes.Tie as tie
 
@@ -21,7 +21,7 @@ abbrev start-of : tie.At-loop Inv-loop μ-loop → tie.Start Inv-loop μ-loop
 start-of c = c .before .before
 
 loop-holds : tie.Need-loop-holds Inv-loop μ-loop
-loop-holds c = (search needs, sym (ap length (bodies-none _ _)))
+loop-holds c = (search needs, sym (rw (picked-none, joined-none)))
 
 taken-part-requires : tie.Need-taken-part-requires Inv-loop μ-loop
 taken-part-requires c κs = (start-of (c .before) .pre, omega arith)
@@ -42,7 +42,7 @@ loop-again : tie.Need-loop-again Inv-loop μ-loop
 loop-again c =
     let l = c .before .before .loop in
     let a = start-of (c .before .before) .args in
-    (omega arith, rw (bodies-more (hasBit (a .mask)) (a .image .now) (l .i), length-append) (omega (arith, l .inv .1, ap length (c .taken-part .ensures))))
+    (omega arith, rw (picked-more (hasBit (a .mask)) (a .image .now) (l .i), length-joined) (omega (arith, l .inv .1, ap length (c .taken-part .ensures))))
 
 returns : tie.Need-returns Inv-loop μ-loop
 returns c =
