@@ -65,7 +65,7 @@ module _ (image t a fresh out : List ℕ) (none : nextRefusal image t a fresh ou
   unfolding nextPrograms
   many =
       let fresh-many = picked-count (λ k. true) fresh (countOf fresh) ∙ count-all (λ k. true) (countOf fresh) (λ i l. refl) in
-      omega (arith, length-append (carriedOf (length t) image a) (allOf fresh), carried-many, fresh-many)
+      rw length-append (omega (arith, carried-many, fresh-many))
 
   few : length programs ≤ maxPrograms
   few = omega (arith, many, shown .few-enough)

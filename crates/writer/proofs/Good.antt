@@ -29,8 +29,8 @@ bytes-back v h = omega arith
 number-at : (a b l : List ℕ) (v k : ℕ) → l ≡ a ++ (number v ++ b) → length a ≡ k → v < 65536 → numberAt l k ≡ v
 unfolding numberAt number
 number-at a b l v k f e h =
-    let x : getD (a ++ (v % 256 ∷ v / 256 % 256 ∷ b)) k 0 ≡ v % 256 = getD-at a (v % 256) (v / 256 % 256 ∷ b) 0 k e in
-    let y : getD (a ++ (v % 256 ∷ v / 256 % 256 ∷ b)) (k + 1) 0 ≡ v / 256 % 256 = rw (← e) (getD-append-add a (v % 256 ∷ v / 256 % 256 ∷ b) 1 0) in
+    let x : getD (a ++ (number v ++ b)) k 0 ≡ v % 256 = getD-at a (v % 256) (v / 256 % 256 ∷ b) 0 k e in
+    let y : getD (a ++ (number v ++ b)) (k + 1) 0 ≡ v / 256 % 256 = rw (← e) (getD-append-add a (v % 256 ∷ v / 256 % 256 ∷ b) 1 0) in
     rw (f, x, y) (bytes-back v h)
 
 -- ---- the offsets

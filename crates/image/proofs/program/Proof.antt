@@ -24,7 +24,7 @@ part-of-requires : tie.Need-part-of-requires
 part-of-requires c κs =
     let a = start (c .before .before) .args in
     let asked = handed-back (now (a .image)) (a .number) (found c) in
-    (lies _ (accepted _ (asked .0) .offsets) _ (asked .1), omega (arith, handed-low (now (a .image)) (a .number) (found c)))
+    (lies _ (accepted _ (asked .0) .offsets) _ (omega (arith, asked .1)), omega (arith, handed-low (now (a .image)) (a .number) (found c)))
 
 slice-aggregate-result : tie.Need-slice-aggregate-result
 slice-aggregate-result c = search needs
