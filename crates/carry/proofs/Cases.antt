@@ -5,7 +5,7 @@ use Prim.Native.Nat.{ℕ}
 use lib.ListN.{length, replicate}
 use Rattle.image.specs.Limits.{maxPrograms}
 use Rattle.image.specs.Refusals.{badHeader, badInstruction, wrongState, noRoom, tooMany, ofFresh, refusing}
-use Rattle.image.proofs.Assembler.{program, image, set, store, reject, instruction}
+use Rattle.image.specs.Assembler.{program, image, set, store, reject, instruction}
 use Rattle.slot.specs.States.{gathered, rejected, committed, carried}
 use Rattle.slot.specs.Log.{empty, layout}
 use Rattle.area.specs.Layout.{firstSlot}

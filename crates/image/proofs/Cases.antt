@@ -1,171 +1,191 @@
--- The image's definitions, tried by computation: the limits, document 01's bench sheet as images, and each way to earn a refusal. Assumes nothing.
-use Prim.Native.Nat.{ℕ, suc, _+_}
+-- Document 01 tried by computation on the image's definitions, sentence by sentence: "Sizes", "The image: counts and offsets", handing back, and the
+-- refusals' numbers. The numbers are literals, and each comparison has a case on both its sides. Assumes nothing.
+use Prim.Native.Nat.{ℕ, _+_, _-_}
+use mathlib.Core.Bool.{true, false}
 use mathlib.Core.Path.{_≡_, refl}
 use mathlib.Core.List.{List, [], _∷_, _++_, map}
 use lib.ListN.{length, take, replicate}
-use Rattle.image.specs.Limits.{maxPrograms, maxInstructions, maxProgramBytes, headBytes, minBytes, maxBytes}
-use Rattle.image.specs.Image.{refusalOf, programRefusalOf, programOf, startOf}
+use Rattle.image.specs.Limits.{maxPrograms, maxInstructions, registers, minCells, maxCells, instructionBytes, maxProgramBytes, headBytes, minBytes, maxBytes}
+use Rattle.image.specs.Refusals.{badSize, badHeader, badOffsets, badInstruction, badTable, badAreaSize, badArea, noSuchProgram, wrongState, noRoom, tooMany, noOrder, ofFresh}
+use Rattle.image.specs.Image.{numberAt, headerOf, secondRule, offsetOf, partOf, refusalOf, programRefusalOf, programOf, startOf}
 use Rattle.image.specs.Opened.{opened}
-use Rattle.image.proofs.Assembler.{Instruction, instruction, end, set, load, store, add, sub, skipless, skipequal, reject}
-use Rattle.image.proofs.Assembler.{program, fields, image}
+use Rattle.image.specs.Assembler.{instruction, end, set, reject, program, fields, image}
+use Rattle.image.specs.Bench.{example-1, example-2, example-3, empty}
 
--- each of these images gets this refusal, 0 for none
-abbrev pub Earns : ℕ → List (List ℕ) → Type 0
-Earns refusal images = map (λ i. refusalOf i .number) images ≡ map (λ i. refusal) images
+-- the refusal's number of each of these images, 0 for none
+abbrev pub refusals : List (List ℕ) → List ℕ
+refusals = map (λ i. refusalOf i)
 
--- ---- the limits that are computed from others are document 01's numbers
+-- ---- "Sizes"
 
-limits : (maxProgramBytes ≡ 128) × (minBytes ≡ 6) × (maxBytes ≡ 8326)
-limits = (refl, refl, refl)
+-- "The limits belong to the image and are named in one place: 0 to 64 programs, 0 to 32 instructions each, 8 registers, 1 to 256 cells"
+limits : maxPrograms ∷ maxInstructions ∷ registers ∷ minCells ∷ maxCells ∷ [] ≡ 64 ∷ 32 ∷ 8 ∷ 1 ∷ 256 ∷ []
+limits = refl
 
--- ---- the bench sheet: cells 0, 1, 2 are x, y, z
+-- as many programs, of no instructions
+abbrev programs : ℕ → List ℕ
+programs n = image 0 (replicate n [])
 
-abbrev pub x : ℕ
-x = 0
-
-abbrev pub y : ℕ
-y = 1
-
-abbrev pub z : ℕ
-z = 2
-
--- x = x + 1
-abbrev pub increment : List ℕ
-increment = program (set 0 x ∷ load 1 0 ∷ set 2 1 ∷ add 1 1 2 ∷ store 0 1 ∷ [])
-
--- to = x + y, to = x − y
-abbrev pub combine : (ℕ → ℕ → ℕ → Instruction) → ℕ → List ℕ
-combine op to = program (set 0 x ∷ set 1 y ∷ load 2 0 ∷ load 3 1 ∷ op 2 2 3 ∷ set 4 to ∷ store 4 2 ∷ [])
-
--- to = from
-abbrev pub copy : ℕ → ℕ → List ℕ
-copy from to = program (set 0 from ∷ set 1 to ∷ load 2 0 ∷ store 1 2 ∷ [])
-
--- loads y and z
-abbrev pub look : List ℕ
-look = program (set 0 y ∷ set 1 z ∷ load 2 0 ∷ load 3 1 ∷ [])
-
--- 004's three examples, under a rule
-abbrev pub example-1 : ℕ → List ℕ
-example-1 rule = image rule (increment ∷ combine sub y ∷ combine add x ∷ [])
-
-abbrev pub example-2 : ℕ → List ℕ
-example-2 rule = image rule (copy x y ∷ copy y z ∷ look ∷ [])
-
-abbrev pub example-3 : ℕ → List ℕ
-example-3 rule = image rule (copy x y ∷ copy z x ∷ copy y z ∷ [])
-
-cases-1-to-6 : Earns 0 (example-1 1 ∷ example-1 2 ∷ example-2 1 ∷ example-2 2 ∷ example-3 2 ∷ example-3 1 ∷ [])
+programs-0-64-65 : refusals (programs 0 ∷ programs 64 ∷ programs 65 ∷ []) ≡ 0 ∷ 0 ∷ 2 ∷ []
 unfolding opened
-cases-1-to-6 = refl
+programs-0-64-65 = refl
 
--- case 7's image
-abbrev pub empty : List ℕ
-empty = image 0 []
+-- a program of as many instructions
+abbrev instructions : ℕ → List ℕ
+instructions m = image 0 (program (replicate m end) ∷ [])
 
-case-7 : (length empty ≡ minBytes) × Earns 0 (empty ∷ [])
+instructions-0-32-33 : refusals (instructions 0 ∷ instructions 32 ∷ instructions 33 ∷ []) ≡ 0 ∷ 0 ∷ 3 ∷ []
 unfolding opened
-case-7 = (refl, refl)
+instructions-0-32-33 = refl
 
--- a skip of c at instruction 0 of 2: it lands on m where c is 1
-abbrev pub skipping : ℕ → List ℕ
-skipping c = image 0 (program (skipless 0 1 c ∷ end ∷ []) ∷ [])
+-- "An image has 6 to 8326 bytes."
+bytes-6-8326 : minBytes ∷ maxBytes ∷ [] ≡ 6 ∷ 8326 ∷ []
+bytes-6-8326 = refl
 
-case-14 : Earns 0 (skipping 1 ∷ []) × Earns 4 (skipping 2 ∷ [])
-unfolding opened
-case-14 = (refl, refl)
-
--- ---- the largest image
-
+-- the largest image, and sizes around both ends
 abbrev full : List ℕ
-full = image 2 (replicate maxPrograms (program (replicate maxInstructions (set 7 65535))))
+full = image 2 (replicate 64 (program (replicate 32 (set 7 65535))))
 
-full-is-good : (length full ≡ maxBytes) × Earns 0 (full ∷ [])
+abbrev sizes : List (List ℕ)
+sizes = take 5 empty ∷ empty ∷ full ∷ (full ++ (0 ∷ [])) ∷ []
+
+bytes-5-6-8326-8327 : (map length sizes ≡ 5 ∷ 6 ∷ 8326 ∷ 8327 ∷ []) × (refusals sizes ≡ 1 ∷ 0 ∷ 0 ∷ 1 ∷ [])
 unfolding opened
-full-is-good = (refl, refl)
+bytes-5-6-8326-8327 = (refl, refl)
 
--- ---- 1: 5 bytes, 8327 bytes
+-- ---- "The image: counts and offsets"
 
-earn-1 : Earns 1 (take 5 empty ∷ (full ++ (0 ∷ [])) ∷ [])
+-- "All numbers are 16 bits, low byte first."
+low-byte-first : map (numberAt (1 ∷ 2 ∷ 255 ∷ 255 ∷ [])) (0 ∷ 1 ∷ 2 ∷ []) ≡ 513 ∷ 65282 ∷ 65535 ∷ []
 unfolding opened
-earn-1 = refl
+low-byte-first = refl
 
--- ---- 2: count 65, and one that is only in the high byte; rule 3; byte 3 not 0
-
-earn-2 : Earns 2 (fields 65 0 0 (6 ∷ []) [] ∷ fields 256 0 0 (6 ∷ []) [] ∷ fields 0 3 0 (6 ∷ []) [] ∷ fields 0 0 1 (6 ∷ []) [] ∷ [])
+-- "Bytes 0–1: program count n. Byte 2: rule, .. Byte 3: 0."
+header : headerOf (3 ∷ 1 ∷ 2 ∷ 7 ∷ []) ≡ record { count = 259; rule = 2; zero = 7 }
 unfolding opened
-earn-2 = refl
+header = refl
 
--- ---- 3: under 2n+6 bytes; the first offset wrong; offsets fall; a length that is no multiple of 4; one of 132; the last offset not the length
+-- "rule, 0 (default, means Rule 1), 1 or 2"
+second-rule : map (λ i. secondRule i) (image 0 [] ∷ image 1 [] ∷ image 2 [] ∷ []) ≡ false ∷ false ∷ true ∷ []
+second-rule = refl
 
-earn-3 : Earns 3 (
-    fields 1 0 0 (8 ∷ []) []
-    ∷ fields 0 0 0 (7 ∷ []) (0 ∷ [])
-    ∷ fields 2 0 0 (10 ∷ 18 ∷ 14 ∷ []) end
-    ∷ fields 1 0 0 (8 ∷ 10 ∷ []) (0 ∷ 0 ∷ [])
-    ∷ image 0 (program (replicate (suc maxInstructions) end) ∷ [])
-    ∷ fields 1 0 0 (8 ∷ 12 ∷ []) (program (end ∷ end ∷ []))
-    ∷ [])
+-- 2, "count over 64, rule over 2, or byte 3 not 0"; 256 programs are said in the high byte alone
+rule-0-1-2-3 : refusals (image 0 [] ∷ image 1 [] ∷ image 2 [] ∷ image 3 [] ∷ []) ≡ 0 ∷ 0 ∷ 0 ∷ 2 ∷ []
 unfolding opened
-earn-3 = refl
+rule-0-1-2-3 = refl
 
--- ---- 4: every operation with the largest bytes that are good, and then each way to be bad, in a program of one instruction
-
-abbrev alone : Instruction → List ℕ
-alone i = image 0 (program (i ∷ []) ∷ [])
-
-good-instructions : Earns 0 (map alone (
-    end ∷ set 7 65535 ∷ load 7 7 ∷ store 7 7 ∷ add 7 7 7 ∷ sub 7 7 7 ∷ skipless 7 7 0 ∷ skipequal 7 7 0 ∷ reject 255 ∷ []))
+byte-3-0-1 : refusals (fields 0 0 0 (6 ∷ []) [] ∷ fields 0 0 1 (6 ∷ []) [] ∷ fields 256 0 0 (6 ∷ []) [] ∷ []) ≡ 0 ∷ 2 ∷ 2 ∷ []
 unfolding opened
-good-instructions = refl
+byte-3-0-1 = refl
 
-unknown-operation : Earns 4 (map alone (instruction 9 0 0 0 ∷ instruction 255 0 0 0 ∷ []))
+-- "Then n+1 offsets. Program i is the bytes from offset i up to, not including, offset i+1."
+abbrev two : List ℕ
+two = image 2 (program (reject 7 ∷ []) ∷ program (set 1 513 ∷ end ∷ []) ∷ [])
+
+two-bytes : two ≡ (2 ∷ 0 ∷ 2 ∷ 0 ∷ []) ++ (10 ∷ 0 ∷ 14 ∷ 0 ∷ 22 ∷ 0 ∷ []) ++ (8 ∷ 7 ∷ 0 ∷ 0 ∷ []) ++ (1 ∷ 1 ∷ 2 ∷ 1 ∷ 0 ∷ 0 ∷ 0 ∷ 0 ∷ [])
+two-bytes = refl
+
+two-offsets : map (λ p. offsetOf two p) (0 ∷ 1 ∷ 2 ∷ []) ≡ 10 ∷ 14 ∷ 22 ∷ []
 unfolding opened
-unknown-operation = refl
+two-offsets = refl
 
-register-over-7 : Earns 4 (map alone (
-    set 8 0 ∷ load 8 0 ∷ load 0 8 ∷ store 8 0 ∷ store 0 8 ∷ add 8 0 0 ∷ add 0 8 0 ∷ add 0 0 8 ∷ sub 8 0 0 ∷ sub 0 8 0 ∷ sub 0 0 8
-    ∷ skipless 8 0 0 ∷ skipless 0 8 0 ∷ skipequal 8 0 0 ∷ skipequal 0 8 0 ∷ []))
+two-parts : map (partOf two) (0 ∷ 1 ∷ []) ≡ (8 ∷ 7 ∷ 0 ∷ 0 ∷ []) ∷ (1 ∷ 1 ∷ 2 ∷ 1 ∷ 0 ∷ 0 ∷ 0 ∷ 0 ∷ []) ∷ []
 unfolding opened
-register-over-7 = refl
+two-parts = refl
 
-unused-byte-not-0 : Earns 4 (map alone (
-    instruction 0 1 0 0 ∷ instruction 0 0 1 0 ∷ instruction 0 0 0 1 ∷ instruction 2 0 0 1 ∷ instruction 3 0 0 1
-    ∷ instruction 8 0 1 0 ∷ instruction 8 0 0 1 ∷ []))
+-- an image with these offsets and then as many bytes, all 0
+abbrev laid : List ℕ → ℕ → List ℕ
+laid offsets k = fields (length offsets - 1) 0 0 offsets (replicate k 0)
+
+-- 3, "image under 2n+6 bytes": of two that have one program, 8 and 7 bytes
+head-2n+6 : map headBytes (0 ∷ 1 ∷ 64 ∷ []) ≡ 6 ∷ 8 ∷ 134 ∷ []
+head-2n+6 = refl
+
+holds-its-offsets : refusals (laid (8 ∷ 8 ∷ []) 0 ∷ take 7 (laid (8 ∷ 8 ∷ []) 0) ∷ []) ≡ 0 ∷ 3 ∷ []
 unfolding opened
-unused-byte-not-0 = refl
+holds-its-offsets = refl
 
-skip-past-the-end : Earns 4 (map alone (skipless 0 0 1 ∷ skipequal 0 0 1 ∷ []))
+-- "The first offset is 2n+6": one less, right, one more, each with all else right
+first-offset : refusals (laid (7 ∷ 11 ∷ []) 3 ∷ laid (8 ∷ 12 ∷ []) 4 ∷ laid (9 ∷ 13 ∷ []) 5 ∷ []) ≡ 3 ∷ 0 ∷ 3 ∷ []
 unfolding opened
-skip-past-the-end = refl
+first-offset = refl
 
--- in any program, also where no run arrives
-never-reached : Earns 4 (image 0 (program (end ∷ []) ∷ program (end ∷ instruction 9 0 0 0 ∷ []) ∷ []) ∷ [])
+-- "offsets never fall": they rise, stay, fall, each with all else right
+never-fall : refusals (laid (10 ∷ 14 ∷ 18 ∷ []) 8 ∷ laid (10 ∷ 14 ∷ 14 ∷ []) 4 ∷ laid (10 ∷ 18 ∷ 14 ∷ []) 4 ∷ []) ≡ 0 ∷ 0 ∷ 3 ∷ []
 unfolding opened
-never-reached = refl
+never-fall = refl
 
--- ---- the order of the checks: where two fail, the first in the list speaks. (Of 2 before 3, see count 65 above, in 6 bytes.)
+-- "each length is a multiple of 4 and at most 128", that of the second program too
+length-4-128 : instructionBytes ∷ maxProgramBytes ∷ [] ≡ 4 ∷ 128 ∷ []
+length-4-128 = refl
 
-size-before-header : Earns 1 (take 5 (fields 65 0 0 (6 ∷ []) []) ∷ [])
+abbrev lengths : List ℕ → List (List ℕ)
+lengths = map (λ k. laid (8 ∷ (8 + k) ∷ []) k)
+
+multiple-of-4 : refusals (lengths (0 ∷ 1 ∷ 2 ∷ 3 ∷ 4 ∷ 6 ∷ 8 ∷ [])) ≡ 0 ∷ 3 ∷ 3 ∷ 3 ∷ 0 ∷ 3 ∷ 0 ∷ []
 unfolding opened
-size-before-header = refl
+multiple-of-4 = refl
 
-offsets-before-instructions : Earns 3 ((alone (instruction 9 0 0 0) ++ (0 ∷ [])) ∷ [])
+at-most-128 : refusals (lengths (124 ∷ 128 ∷ 132 ∷ [])) ≡ 0 ∷ 0 ∷ 3 ∷ []
 unfolding opened
-offsets-before-instructions = refl
+at-most-128 = refl
 
--- ---- handing back
-
-handed-back : (programOf (example-1 1) 1 ≡ combine sub y) × (startOf (example-1 1) 1 ≡ headBytes 3 + length increment)
-    × (programRefusalOf (example-1 1) 1 .number ≡ 0)
+second-length : refusals (laid (10 ∷ 14 ∷ 16 ∷ []) 6 ∷ laid (10 ∷ 14 ∷ 146 ∷ []) 136 ∷ []) ≡ 3 ∷ 3 ∷ []
 unfolding opened
-handed-back = (refl, refl, refl)
+second-length = refl
 
-no-program-3 : (programOf (example-1 1) 3 ≡ []) × (startOf (example-1 1) 3 ≡ 0) × (programRefusalOf (example-1 1) 3 .number ≡ 8)
+-- "the last offset is the image's length": one more than it, right, one less
+last-offset : refusals (laid (8 ∷ 12 ∷ []) 3 ∷ laid (8 ∷ 12 ∷ []) 4 ∷ laid (8 ∷ 12 ∷ []) 5 ∷ []) ≡ 3 ∷ 0 ∷ 3 ∷ []
 unfolding opened
-no-program-3 = (refl, refl, refl)
+last-offset = refl
 
--- the image's own refusal comes first, and nothing is handed back of such an image
-refused-image : (programOf (skipping 2) 0 ≡ []) × (startOf (skipping 2) 0 ≡ 0) × (programRefusalOf (skipping 2) 3 .number ≡ 4)
+-- the bench sheet's images are good
+bench-sheet : refusals (example-1 1 ∷ example-1 2 ∷ example-2 1 ∷ example-2 2 ∷ example-3 2 ∷ example-3 1 ∷ empty ∷ [])
+    ≡ 0 ∷ 0 ∷ 0 ∷ 0 ∷ 0 ∷ 0 ∷ 0 ∷ []
 unfolding opened
-refused-image = (refl, refl, refl)
+bench-sheet = refl
+
+-- ---- "What each refusal says"
+
+-- the column "no."
+numbers : badSize ∷ badHeader ∷ badOffsets ∷ badInstruction ∷ badTable ∷ badAreaSize ∷ badArea ∷ noSuchProgram ∷ wrongState ∷ noRoom ∷ tooMany ∷ noOrder ∷ []
+    ≡ 1 ∷ 2 ∷ 3 ∷ 4 ∷ 5 ∷ 6 ∷ 7 ∷ 8 ∷ 9 ∷ 10 ∷ 11 ∷ 12 ∷ []
+numbers = refl
+
+-- "21–24: as 1–4, for the fresh image"
+numbers-of-fresh : map ofFresh (1 ∷ 2 ∷ 3 ∷ 4 ∷ []) ≡ 21 ∷ 22 ∷ 23 ∷ 24 ∷ []
+numbers-of-fresh = refl
+
+-- "Checks go in the row order": 1 before 2 (rule 3 in 5 bytes), 2 before 3 (65 programs in 6 bytes), 3 before 4 (a byte too many after operation 9)
+abbrev bad : List ℕ
+bad = image 0 (program (instruction 9 0 0 0 ∷ []) ∷ [])
+
+row-order : refusals (take 5 (image 3 []) ∷ fields 65 0 0 (6 ∷ []) [] ∷ (bad ++ (0 ∷ [])) ∷ []) ≡ 1 ∷ 2 ∷ 3 ∷ []
+unfolding opened
+row-order = refl
+
+-- ---- handing back a program
+
+-- "A program asked for by number is handed back as that very part of the image"
+handed-back : (map (programOf two) (0 ∷ 1 ∷ []) ≡ (8 ∷ 7 ∷ 0 ∷ 0 ∷ []) ∷ (1 ∷ 1 ∷ 2 ∷ 1 ∷ 0 ∷ 0 ∷ 0 ∷ 0 ∷ []) ∷ [])
+    × (map (startOf two) (0 ∷ 1 ∷ []) ≡ 10 ∷ 14 ∷ [])
+unfolding opened
+handed-back = (refl, refl)
+
+-- "checks 1 to 4 and 8", "program number n or more"; program 2 of an image that is refused for 1, 2, 3, 4, and then programs 1, 2, 3 of two
+abbrev asked : {A : Type 0} → (List ℕ → ℕ → A) → List A
+asked f = map (λ i. f i 2) (take 5 empty ∷ image 3 [] ∷ (two ++ (0 ∷ [])) ∷ bad ∷ []) ++ map (f two) (1 ∷ 2 ∷ 3 ∷ [])
+
+program-refusals : asked (λ i p. programRefusalOf i p) ≡ 1 ∷ 2 ∷ 3 ∷ 4 ∷ 0 ∷ 8 ∷ 8 ∷ []
+unfolding opened
+program-refusals = refl
+
+no-program-0 : programRefusalOf empty 0 ≡ 8
+unfolding opened
+no-program-0 = refl
+
+-- "returns the part alone, empty on a refusal"
+empty-on-a-refusal : (asked programOf ≡ [] ∷ [] ∷ [] ∷ [] ∷ (1 ∷ 1 ∷ 2 ∷ 1 ∷ 0 ∷ 0 ∷ 0 ∷ 0 ∷ []) ∷ [] ∷ [] ∷ [])
+    × (asked startOf ≡ 0 ∷ 0 ∷ 0 ∷ 0 ∷ 14 ∷ 0 ∷ 0 ∷ [])
+unfolding opened
+empty-on-a-refusal = (refl, refl)

@@ -1,5 +1,5 @@
-pub mod Assembler
-pub mod Cases
 pub mod Laws
 pub mod Refusing
 pub mod Unique
+pub mod Cases
+pub mod InstructionCases

@@ -4,7 +4,7 @@ use mathlib.Core.List.{List, [], _∷_, _++_, map}
 use Prim.Native.Nat.{ℕ}
 use lib.ListN.{replicate}
 use Rattle.image.specs.Refusals.{wrongState, noRoom, noOrder, refusing}
-use Rattle.image.proofs.Assembler.{image}
+use Rattle.image.specs.Assembler.{image}
 use Rattle.slot.specs.States.{gathered, rejected, committed, carried}
 use Rattle.slot.specs.Log.{layout}
 use Rattle.area.specs.Layout.{firstSlot}

@@ -4,7 +4,7 @@ use Prim.Native.Nat.{ℕ, zero, suc, _+_, _*_}
 use mathlib.Core.List.{List, [], _∷_, _++_}
 use mathlib.Core.Path.{_≡_, refl}
 use Rattle.image.specs.Limits.{maxInstructions}
-use Rattle.image.proofs.Assembler.{Instruction, end, set, load, store, add, sub, skipless, skipequal, reject, program}
+use Rattle.image.specs.Assembler.{Instruction, end, set, load, store, add, sub, skipless, skipequal, reject, program}
 use Rattle.slot.specs.States.{gathered, rejected, faulted}
 use Rattle.slot.specs.Log.{empty, layout}
 use Rattle.machine.specs.declared.Run.the-variants.{Finished, Rejected, Faulted}

@@ -7,8 +7,8 @@ use mathlib.Core.List.{List, [], _∷_, _++_, map}
 use lib.ListN.{length, replicate}
 use Rattle.base.specs.Words.{tabulate}
 use Rattle.image.specs.Image.{countOf}
-use Rattle.image.proofs.Assembler.{set, store, sub, reject, program, image}
-use Rattle.image.proofs.Cases.{x, y, increment, copy, example-1, example-2, example-3, empty}
+use Rattle.image.specs.Assembler.{set, store, sub, reject, program, image}
+use Rattle.image.specs.Bench.{x, y, increment, copy, example-1, example-2, example-3, empty}
 use Rattle.area.specs.Layout.{areaWords, stateOf, detailOf}
 use Rattle.listing.specs.Listing.{orderOf}
 use Rattle.promises.specs.Laid.{World, paperWorld}

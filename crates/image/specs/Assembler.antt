@@ -1,5 +1,5 @@
--- Images written as programs: the instructions by their names in document 01, a program as a list of them, an image as a list of programs with the
--- offsets computed. Worked cases are written with it, in this crate or another. Assumes nothing.
+-- How a worked case writes an image down: the instructions by their names in document 01, a program as a list of them, an image as a list of
+-- programs with the offsets computed. A case of this crate pins the bytes. Assumes nothing.
 use Prim.Native.Nat.{ℕ, _+_, _/_, _%_}
 use mathlib.Core.List.{List, [], _∷_, _++_, foldr}
 use lib.ListN.{length}
