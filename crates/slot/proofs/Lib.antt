@@ -4,3 +4,4 @@ pub mod Logs
 pub mod Slots
 pub mod Noted
 pub mod Unique
+pub mod Cases
