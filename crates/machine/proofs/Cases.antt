@@ -1,194 +1,211 @@
--- Runs tried by computation: the bench sheet's cases that are about one program, and each operation at its edges. Every case compares the whole
--- outcome: answer, reads, stored cells and values, path and loads. Assumes nothing.
-use Prim.Native.Nat.{ℕ, zero, suc, _+_, _*_}
-use mathlib.Core.List.{List, [], _∷_, _++_}
+-- Document 01, "Instructions" and the slot of "The work area", tried by computation on whole runs, sentence by sentence. A case compares all that came
+-- of a run: answer, log, path and the values loaded; or the slot that it leaves, word by word. Assumes nothing.
+use Prim.Native.Nat.{ℕ, zero, suc}
+use mathlib.Core.List.{List, [], _∷_, _++_, map}
 use mathlib.Core.Path.{_≡_, refl}
-use Rattle.image.specs.Limits.{maxInstructions}
+use lib.ListN.{replicate}
 use Rattle.image.specs.Assembler.{Instruction, end, set, load, store, add, sub, skipless, skipequal, reject, program}
-use Rattle.slot.specs.States.{gathered, rejected, faulted}
-use Rattle.slot.specs.Log.{empty, layout}
+use Rattle.slot.specs.Log.{Log}
+use Rattle.machine.specs.declared.Run.{Run}
 use Rattle.machine.specs.declared.Run.the-variants.{Finished, Rejected, Faulted}
-use Rattle.machine.specs.Runs.{loadFault, storeFault, runOf, slotOf}
+use Rattle.machine.specs.Runs.{Outcome, loadFault, storeFault, runOf, stateOfRun, detailOfRun, slotOf}
 use Rattle.machine.specs.Opened.{opened}
 
--- ---- long lists
+-- ---- how a case is written
 
--- an instruction n times
-abbrev times : ℕ → Instruction → List Instruction
-times zero i = []
-times (suc n) i = i ∷ times n i
+-- the run of these instructions on a table
+abbrev run : List Instruction → List ℕ → Outcome
+run instructions table = runOf (program instructions) table
+
+-- the slot that it leaves
+abbrev slot : List Instruction → List ℕ → List ℕ
+slot instructions table = slotOf (run instructions table)
+
+-- these reads, stored cells and values
+abbrev log : List ℕ → List ℕ → List ℕ → Log
+log reads cells values = record { reads = reads; cells = cells; values = values }
+
+abbrev none : Log
+none = log [] [] []
+
+-- how it ended, its log, the places that it visited, the values that it loaded
+abbrev ran : Run → Log → List ℕ → List ℕ → Outcome
+ran answer log path loads = record { answer = answer; log = log; path = path; loads = loads }
+
+-- a table of so many cells that all hold 5
+abbrev fives : ℕ → List ℕ
+fives T = replicate T 5
 
 -- n numbers from one on
 abbrev from : ℕ → ℕ → List ℕ
 from first zero = []
 from first (suc n) = first ∷ from (suc first) n
 
--- ---- the bench sheet
+-- ---- "Arriving at m is an end."
 
--- case 8: T=4, "set r0 to 4, store there: faulted, detail 513"
-case-8 : runOf (program (set 0 4 ∷ store 0 1 ∷ [])) (0 ∷ 0 ∷ 0 ∷ 0 ∷ [])
-    ≡ record { answer = Faulted storeFault 1; log = record { reads = []; cells = []; values = [] }; path = 0 ∷ 1 ∷ []; loads = [] }
-unfolding opened
-case-8 = refl
-
-case-8-slot : slotOf (runOf (program (set 0 4 ∷ store 0 1 ∷ [])) (0 ∷ 0 ∷ 0 ∷ 0 ∷ [])) ≡ layout faulted 513 empty
-unfolding opened
-case-8-slot = refl
-
--- "With 3 it commits": it finishes
-case-8-within : runOf (program (set 0 3 ∷ store 0 1 ∷ [])) (0 ∷ 0 ∷ 0 ∷ 0 ∷ [])
-    ≡ record { answer = Finished; log = record { reads = []; cells = 3 ∷ []; values = 0 ∷ [] }; path = 0 ∷ 1 ∷ []; loads = [] }
-unfolding opened
-case-8-within = refl
-
-case-8-within-slot : slotOf (runOf (program (set 0 3 ∷ store 0 1 ∷ [])) (0 ∷ 0 ∷ 0 ∷ 0 ∷ [])) ≡ layout gathered 0 (record { reads = []; cells = 3 ∷ []; values = 0 ∷ [] })
-unfolding opened
-case-8-within-slot = refl
-
--- case 10: "Program 0 stores x, then rejects with 7"; its slot has only state and detail
-case-10-rejects : runOf (program (set 1 6 ∷ store 0 1 ∷ reject 7 ∷ [])) (5 ∷ [])
-    ≡ record { answer = Rejected 7; log = record { reads = []; cells = 0 ∷ []; values = 6 ∷ [] }; path = 0 ∷ 1 ∷ 2 ∷ []; loads = [] }
-unfolding opened
-case-10-rejects = refl
-
-case-10-slot : slotOf (runOf (program (set 1 6 ∷ store 0 1 ∷ reject 7 ∷ [])) (5 ∷ [])) ≡ layout rejected 7 empty
-unfolding opened
-case-10-slot = refl
-
--- "program 1 loads x: .. its load gives the opening value"
-case-10-loads : runOf (program (load 1 0 ∷ [])) (5 ∷ [])
-    ≡ record { answer = Finished; log = record { reads = 0 ∷ []; cells = []; values = [] }; path = 0 ∷ []; loads = 5 ∷ [] }
-unfolding opened
-case-10-loads = refl
-
--- case 11: "One program loads and then stores x"
-case-11 : runOf (program (load 1 0 ∷ store 0 1 ∷ [])) (9 ∷ [])
-    ≡ record { answer = Finished; log = record { reads = 0 ∷ []; cells = 0 ∷ []; values = 9 ∷ [] }; path = 0 ∷ 1 ∷ []; loads = 9 ∷ [] }
-unfolding opened
-case-11 = refl
-
--- case 12: "0 − 1 gives 4294967295"
-case-12 : runOf (program (set 1 1 ∷ sub 2 0 1 ∷ store 0 2 ∷ [])) (5 ∷ [])
-    ≡ record { answer = Finished; log = record { reads = []; cells = 0 ∷ []; values = 4294967295 ∷ [] }; path = 0 ∷ 1 ∷ 2 ∷ []; loads = [] }
-unfolding opened
-case-12 = refl
-
--- case 13: T=4, "cell 0 = 2, cell 2 = 3, store through both: reads 0, 2; stores 3"
-case-13 : runOf (program (load 1 0 ∷ load 2 1 ∷ store 2 1 ∷ [])) (2 ∷ 0 ∷ 3 ∷ 0 ∷ [])
-    ≡ record { answer = Finished; log = record { reads = 0 ∷ 2 ∷ []; cells = 3 ∷ []; values = 2 ∷ [] }; path = 0 ∷ 1 ∷ 2 ∷ []; loads = 2 ∷ 3 ∷ [] }
-unfolding opened
-case-13 = refl
-
--- ---- the operations at their edges
-
--- a program of no instructions finishes
-no-instructions : runOf [] (5 ∷ [])
-    ≡ record { answer = Finished; log = record { reads = []; cells = []; values = [] }; path = []; loads = [] }
+-- of no instructions; past the last one; by a skip; by a skip that is not taken, which does not arrive; past a skip of none
+no-instructions : run [] (fives 1) ≡ ran Finished none [] []
 unfolding opened
 no-instructions = refl
 
--- an end stops, whatever comes after it
-end-stops : runOf (program (end ∷ reject 1 ∷ [])) (5 ∷ [])
-    ≡ record { answer = Finished; log = record { reads = []; cells = []; values = [] }; path = 0 ∷ []; loads = [] }
+past-the-last : run (set 1 1 ∷ set 2 2 ∷ []) (fives 1) ≡ ran Finished none (0 ∷ 1 ∷ []) []
 unfolding opened
-end-stops = refl
+past-the-last = refl
 
--- the largest number that set gives
-largest-set : runOf (program (set 1 65535 ∷ store 0 1 ∷ [])) (5 ∷ [])
-    ≡ record { answer = Finished; log = record { reads = []; cells = 0 ∷ []; values = 65535 ∷ [] }; path = 0 ∷ 1 ∷ []; loads = [] }
-unfolding opened
-largest-set = refl
-
--- 4294967295 + 1 gives 0
-sum-wraps : runOf (program (set 1 1 ∷ sub 2 0 1 ∷ add 3 2 1 ∷ store 0 3 ∷ [])) (5 ∷ [])
-    ≡ record { answer = Finished; log = record { reads = []; cells = 0 ∷ []; values = 0 ∷ [] }; path = 0 ∷ 1 ∷ 2 ∷ 3 ∷ []; loads = [] }
-unfolding opened
-sum-wraps = refl
-
--- a skip by 0 goes on to the next
-skip-by-none : runOf (program (skipequal 0 0 0 ∷ reject 9 ∷ [])) (5 ∷ [])
-    ≡ record { answer = Rejected 9; log = record { reads = []; cells = []; values = [] }; path = 0 ∷ 1 ∷ []; loads = [] }
-unfolding opened
-skip-by-none = refl
-
--- and so does one that is not taken
-skip-by-none-not-taken : runOf (program (skipless 0 0 0 ∷ reject 9 ∷ [])) (5 ∷ [])
-    ≡ record { answer = Rejected 9; log = record { reads = []; cells = []; values = [] }; path = 0 ∷ 1 ∷ []; loads = [] }
-unfolding opened
-skip-by-none-not-taken = refl
-
--- a skip to m is an end
-skip-to-the-end : runOf (program (skipequal 0 0 1 ∷ reject 9 ∷ [])) (5 ∷ [])
-    ≡ record { answer = Finished; log = record { reads = []; cells = []; values = [] }; path = 0 ∷ []; loads = [] }
+skip-to-the-end : run (skipequal 0 0 1 ∷ reject 9 ∷ []) (fives 1) ≡ ran Finished none (0 ∷ []) []
 unfolding opened
 skip-to-the-end = refl
 
--- the same, not taken
-skip-to-the-end-not-taken : runOf (program (skipless 0 0 1 ∷ reject 9 ∷ [])) (5 ∷ [])
-    ≡ record { answer = Rejected 9; log = record { reads = []; cells = []; values = [] }; path = 0 ∷ 1 ∷ []; loads = [] }
+skip-not-taken : run (skipless 0 0 1 ∷ reject 9 ∷ []) (fives 1) ≡ ran (Rejected 9) none (0 ∷ 1 ∷ []) []
 unfolding opened
-skip-to-the-end-not-taken = refl
+skip-not-taken = refl
 
--- 0 is less than 1
-less-skips : runOf (program (set 1 1 ∷ skipless 0 1 1 ∷ reject 9 ∷ [])) (5 ∷ [])
-    ≡ record { answer = Finished; log = record { reads = []; cells = []; values = [] }; path = 0 ∷ 1 ∷ []; loads = [] }
+-- "end: stops", whatever comes after it
+end-stops : run (end ∷ reject 1 ∷ []) (fives 1) ≡ ran Finished none (0 ∷ []) []
 unfolding opened
-less-skips = refl
+end-stops = refl
 
--- a load of a stored cell gives the stored value and reads nothing
-load-after-store : runOf (program (set 1 7 ∷ store 0 1 ∷ load 2 0 ∷ [])) (5 ∷ [])
-    ≡ record { answer = Finished; log = record { reads = []; cells = 0 ∷ []; values = 7 ∷ [] }; path = 0 ∷ 1 ∷ 2 ∷ []; loads = 7 ∷ [] }
-unfolding opened
-load-after-store = refl
-
--- a read before the store stays a read, once
-store-after-load : runOf (program (load 1 0 ∷ store 0 0 ∷ load 2 0 ∷ [])) (5 ∷ [])
-    ≡ record { answer = Finished; log = record { reads = 0 ∷ []; cells = 0 ∷ []; values = 0 ∷ [] }; path = 0 ∷ 1 ∷ 2 ∷ []; loads = 5 ∷ 0 ∷ [] }
-unfolding opened
-store-after-load = refl
-
--- a cell that is loaded twice is read once
-read-twice : runOf (program (load 1 0 ∷ load 2 0 ∷ [])) (5 ∷ [])
-    ≡ record { answer = Finished; log = record { reads = 0 ∷ []; cells = []; values = [] }; path = 0 ∷ 1 ∷ []; loads = 5 ∷ 5 ∷ [] }
-unfolding opened
-read-twice = refl
-
--- two stores to one cell: its first place, its last value
-stored-twice : runOf (program (set 1 1 ∷ store 0 1 ∷ store 1 1 ∷ set 2 3 ∷ store 0 2 ∷ [])) (5 ∷ 5 ∷ [])
-    ≡ record { answer = Finished; log = record { reads = []; cells = 0 ∷ 1 ∷ []; values = 3 ∷ 1 ∷ [] }; path = 0 ∷ 1 ∷ 2 ∷ 3 ∷ 4 ∷ []; loads = [] }
-unfolding opened
-stored-twice = refl
-
--- a load outside the table is the other kind of fault
-load-outside : runOf (program (set 1 1 ∷ load 0 1 ∷ [])) (5 ∷ [])
-    ≡ record { answer = Faulted loadFault 1; log = record { reads = []; cells = []; values = [] }; path = 0 ∷ 1 ∷ []; loads = [] }
-unfolding opened
-load-outside = refl
-
--- each cell holds the number of the next: 32 loads read 32 cells
-thirty-two-loads : runOf (program (times maxInstructions (load 0 0))) (from 1 maxInstructions)
-    ≡ record { answer = Finished; log = record { reads = from 0 maxInstructions; cells = []; values = [] }; path = from 0 maxInstructions; loads = from 1 maxInstructions }
+-- all 32 instructions take a turn: each cell holds the number of the next, so that 32 loads read 32 cells
+thirty-two-loads : run (replicate 32 (load 0 0)) (from 1 32) ≡ ran Finished (log (from 0 32) [] []) (from 0 32) (from 1 32)
 unfolding opened
 thirty-two-loads = refl
 
--- 32 stores, all to one cell, since a store changes no register
-thirty-two-stores : runOf (program (times maxInstructions (store 0 0))) (5 ∷ [])
-    ≡ record { answer = Finished; log = record { reads = []; cells = 0 ∷ []; values = 0 ∷ [] }; path = from 0 maxInstructions; loads = [] }
+-- what is left out by a skip is not visited
+leaves-out-two : run (load 1 0 ∷ skipequal 0 2 2 ∷ reject 9 ∷ reject 9 ∷ load 2 1 ∷ store 2 1 ∷ []) (1 ∷ 2 ∷ 3 ∷ [])
+    ≡ ran Finished (log (0 ∷ 1 ∷ []) (2 ∷ []) (1 ∷ [])) (0 ∷ 1 ∷ 4 ∷ 5 ∷ []) (1 ∷ 2 ∷ [])
 unfolding opened
-thirty-two-stores = refl
+leaves-out-two = refl
 
--- a fault at the last instruction
-fault-at-31 : runOf (program (times 31 (set 1 1) ++ (load 0 1 ∷ []))) (5 ∷ [])
-    ≡ record { answer = Faulted loadFault 31; log = record { reads = []; cells = []; values = [] }; path = from 0 maxInstructions; loads = [] }
-unfolding opened
-fault-at-31 = refl
+-- ---- "A load of a cell that the same program has stored gives the stored value and adds nothing to the reads."
 
-fault-at-31-slot : slotOf (runOf (program (times 31 (set 1 1) ++ (load 0 1 ∷ []))) (5 ∷ [])) ≡ layout faulted (256 * loadFault + 31) empty
+load-after-store : run (set 1 7 ∷ store 0 1 ∷ load 2 0 ∷ []) (fives 1) ≡ ran Finished (log [] (0 ∷ []) (7 ∷ [])) (0 ∷ 1 ∷ 2 ∷ []) (7 ∷ [])
 unfolding opened
-fault-at-31-slot = refl
+load-after-store = refl
 
--- the path leaves out what is skipped; the loads are in order
-path-with-a-skip : runOf (program (load 1 0 ∷ skipequal 0 2 2 ∷ reject 9 ∷ reject 9 ∷ load 2 1 ∷ store 2 1 ∷ [])) (1 ∷ 2 ∷ 3 ∷ [])
-    ≡ record { answer = Finished; log = record { reads = 0 ∷ 1 ∷ []; cells = 2 ∷ []; values = 1 ∷ [] }; path = 0 ∷ 1 ∷ 4 ∷ 5 ∷ []; loads = 1 ∷ 2 ∷ [] }
+-- the loaded value goes into the register: the load's 7 is stored to cell 1
+load-into-the-register : run (set 1 7 ∷ store 0 1 ∷ load 2 0 ∷ set 3 1 ∷ store 3 2 ∷ []) (fives 2)
+    ≡ ran Finished (log [] (0 ∷ 1 ∷ []) (7 ∷ 7 ∷ [])) (from 0 5) (7 ∷ [])
 unfolding opened
-path-with-a-skip = refl
+load-into-the-register = refl
+
+-- ---- "Any other load gives the opening table's value and adds the cell to the reads, once."
+
+read-twice : run (load 1 0 ∷ load 2 0 ∷ []) (fives 1) ≡ ran Finished (log (0 ∷ []) [] []) (0 ∷ 1 ∷ []) (5 ∷ 5 ∷ [])
+unfolding opened
+read-twice = refl
+
+-- a read before the store stays a read
+store-after-load : run (load 1 0 ∷ store 0 0 ∷ load 2 0 ∷ []) (fives 1) ≡ ran Finished (log (0 ∷ []) (0 ∷ []) (0 ∷ [])) (0 ∷ 1 ∷ 2 ∷ []) (5 ∷ 0 ∷ [])
+unfolding opened
+store-after-load = refl
+
+-- ---- "The last store to a cell counts; the cell keeps its first place among the stores."
+
+stored-twice : run (set 1 1 ∷ store 0 1 ∷ store 1 1 ∷ set 2 3 ∷ store 0 2 ∷ load 4 0 ∷ []) (fives 2)
+    ≡ ran Finished (log [] (0 ∷ 1 ∷ []) (3 ∷ 1 ∷ [])) (from 0 6) (3 ∷ [])
+unfolding opened
+stored-twice = refl
+
+-- ---- "A cell number of T or more is a fault with a kind and a place: kind 1 at a load, 2 at a store."
+
+kinds : loadFault ∷ storeFault ∷ [] ≡ 1 ∷ 2 ∷ []
+kinds = refl
+
+-- cells T−1 and T of 4, of 1 and of 256; in the last case cell 4294967295
+load-3-of-4 : run (set 1 3 ∷ load 0 1 ∷ []) (fives 4) ≡ ran Finished (log (3 ∷ []) [] []) (0 ∷ 1 ∷ []) (5 ∷ [])
+unfolding opened
+load-3-of-4 = refl
+
+load-4-of-4 : run (set 1 4 ∷ load 0 1 ∷ []) (fives 4) ≡ ran (Faulted 1 1) none (0 ∷ 1 ∷ []) []
+unfolding opened
+load-4-of-4 = refl
+
+-- case 8 of the bench sheet
+store-3-of-4 : run (set 0 3 ∷ store 0 1 ∷ []) (fives 4) ≡ ran Finished (log [] (3 ∷ []) (0 ∷ [])) (0 ∷ 1 ∷ []) []
+unfolding opened
+store-3-of-4 = refl
+
+store-4-of-4 : run (set 0 4 ∷ store 0 1 ∷ []) (fives 4) ≡ ran (Faulted 2 1) none (0 ∷ 1 ∷ []) []
+unfolding opened
+store-4-of-4 = refl
+
+load-and-store-0-of-1 : run (load 1 0 ∷ store 0 1 ∷ []) (fives 1) ≡ ran Finished (log (0 ∷ []) (0 ∷ []) (5 ∷ [])) (0 ∷ 1 ∷ []) (5 ∷ [])
+unfolding opened
+load-and-store-0-of-1 = refl
+
+load-and-store-255-of-256 : run (set 0 255 ∷ load 1 0 ∷ store 0 1 ∷ []) (fives 256)
+    ≡ ran Finished (log (255 ∷ []) (255 ∷ []) (5 ∷ [])) (0 ∷ 1 ∷ 2 ∷ []) (5 ∷ [])
+unfolding opened
+load-and-store-255-of-256 = refl
+
+store-256-of-256 : run (set 0 256 ∷ store 0 1 ∷ []) (fives 256) ≡ ran (Faulted 2 1) none (0 ∷ 1 ∷ []) []
+unfolding opened
+store-256-of-256 = refl
+
+load-the-last-number : run (set 1 1 ∷ sub 2 0 1 ∷ load 0 2 ∷ []) (fives 1) ≡ ran (Faulted 1 2) none (0 ∷ 1 ∷ 2 ∷ []) []
+unfolding opened
+load-the-last-number = refl
+
+-- ---- "States: 1 gathered, 2 rejected, 3 faulted. Detail: the reject code; 256 × kind + instruction number; .. else 0."
+
+-- for both kinds, at the first and at the last instruction
+states : map stateOfRun (Finished ∷ Rejected 7 ∷ Faulted 1 0 ∷ Faulted 2 31 ∷ []) ≡ 1 ∷ 2 ∷ 3 ∷ 3 ∷ []
+states = refl
+
+details : map detailOfRun (Finished ∷ Rejected 0 ∷ Rejected 255 ∷ Faulted 1 0 ∷ Faulted 1 31 ∷ Faulted 2 0 ∷ Faulted 2 31 ∷ []) ≡ 0 ∷ 0 ∷ 255 ∷ 256 ∷ 287 ∷ 512 ∷ 543 ∷ []
+details = refl
+
+-- the whole slot of a run that finished (case 13: "cell 0 = 2, cell 2 = 3, store through both: reads 0, 2; stores 3")
+slot-finished : slot (load 1 0 ∷ load 2 1 ∷ store 2 1 ∷ []) (2 ∷ 0 ∷ 3 ∷ 0 ∷ [])
+    ≡ 1 ∷ 0 ∷ 2 ∷ 1 ∷ (0 ∷ 2 ∷ replicate 30 0) ++ (3 ∷ replicate 31 0) ++ (2 ∷ replicate 31 0)
+unfolding opened
+slot-finished = refl
+
+-- ---- "A program that rejects or faults stores nothing"; "A rejected or faulted slot has only state and detail."
+
+-- each loads cell 0 and stores cell 1 first
+abbrev first : List Instruction → List Instruction
+first rest = load 2 0 ∷ set 1 1 ∷ store 1 2 ∷ rest
+
+slot-rejected : slot (first (reject 7 ∷ [])) (fives 4) ≡ 2 ∷ 7 ∷ replicate 98 0
+unfolding opened
+slot-rejected = refl
+
+slot-load-fault : slot (first (set 0 4 ∷ load 3 0 ∷ [])) (fives 4) ≡ 3 ∷ 260 ∷ replicate 98 0
+unfolding opened
+slot-load-fault = refl
+
+slot-store-fault : slot (first (set 0 4 ∷ store 0 1 ∷ [])) (fives 4) ≡ 3 ∷ 516 ∷ replicate 98 0
+unfolding opened
+slot-store-fault = refl
+
+-- the run itself still says what it had read and stored
+run-rejected : run (first (reject 7 ∷ [])) (fives 4) ≡ ran (Rejected 7) (log (0 ∷ []) (1 ∷ []) (5 ∷ [])) (0 ∷ 1 ∷ 2 ∷ 3 ∷ []) (5 ∷ [])
+unfolding opened
+run-rejected = refl
+
+-- ---- the bench sheet's cases of one program
+
+-- 8: "T=4: set r0 to 4, store there: faulted, detail 513."
+case-8 : slot (set 0 4 ∷ store 0 1 ∷ []) (fives 4) ≡ 3 ∷ 513 ∷ replicate 98 0
+unfolding opened
+case-8 = refl
+
+-- 10: "Program 0 stores x, then rejects with 7; program 1 loads x"
+case-10 : slot (set 1 6 ∷ store 0 1 ∷ reject 7 ∷ []) (fives 1) ≡ 2 ∷ 7 ∷ replicate 98 0
+unfolding opened
+case-10 = refl
+
+case-10-loads : run (load 1 0 ∷ []) (fives 1) ≡ ran Finished (log (0 ∷ []) [] []) (0 ∷ []) (5 ∷ [])
+unfolding opened
+case-10-loads = refl
+
+-- 11: "One program loads and then stores x"
+case-11 : run (load 1 0 ∷ store 0 1 ∷ []) (9 ∷ []) ≡ ran Finished (log (0 ∷ []) (0 ∷ []) (9 ∷ [])) (0 ∷ 1 ∷ []) (9 ∷ [])
+unfolding opened
+case-11 = refl
+
+-- 12: "0 − 1 gives 4294967295."
+case-12 : run (set 1 1 ∷ sub 2 0 1 ∷ store 0 2 ∷ []) (fives 1) ≡ ran Finished (log [] (0 ∷ []) (4294967295 ∷ [])) (0 ∷ 1 ∷ 2 ∷ []) []
+unfolding opened
+case-12 = refl

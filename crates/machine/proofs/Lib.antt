@@ -6,3 +6,4 @@ pub mod Going
 pub mod Ends
 pub mod Cases
 pub mod Unique
+pub mod OperationCases
