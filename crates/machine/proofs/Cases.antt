@@ -4,7 +4,7 @@ use Prim.Native.Nat.{ℕ, zero, suc}
 use mathlib.Core.List.{List, [], _∷_, _++_, map}
 use mathlib.Core.Path.{_≡_, refl}
 use lib.ListN.{replicate}
-use Rattle.image.specs.Assembler.{Instruction, end, set, load, store, add, sub, skipless, skipequal, reject, program}
+use Rattle.image.specs.Assembler.{Instruction, end, set, load, store, sub, skipless, skipequal, reject, program}
 use Rattle.slot.specs.Log.{Log}
 use Rattle.machine.specs.declared.Run.{Run}
 use Rattle.machine.specs.declared.Run.the-variants.{Finished, Rejected, Faulted}
@@ -111,37 +111,28 @@ stored-twice = refl
 kinds : loadFault ∷ storeFault ∷ [] ≡ 1 ∷ 2 ∷ []
 kinds = refl
 
--- cells T−1 and T of 4, of 1 and of 256; in the last case cell 4294967295
-load-3-of-4 : run (set 1 3 ∷ load 0 1 ∷ []) (fives 4) ≡ ran Finished (log (3 ∷ []) [] []) (0 ∷ 1 ∷ []) (5 ∷ [])
+-- cells T−1 and T of 4 (for stores, case 8 of the bench sheet), and of 256; for T = 1 see case 11
+load-3-and-4 : map (λ c. run (set 1 c ∷ load 0 1 ∷ []) (fives 4)) (3 ∷ 4 ∷ [])
+    ≡ ran Finished (log (3 ∷ []) [] []) (0 ∷ 1 ∷ []) (5 ∷ []) ∷ ran (Faulted 1 1) none (0 ∷ 1 ∷ []) [] ∷ []
 unfolding opened
-load-3-of-4 = refl
+load-3-and-4 = refl
 
-load-4-of-4 : run (set 1 4 ∷ load 0 1 ∷ []) (fives 4) ≡ ran (Faulted 1 1) none (0 ∷ 1 ∷ []) []
+store-3-and-4 : map (λ c. run (set 0 c ∷ store 0 1 ∷ []) (fives 4)) (3 ∷ 4 ∷ [])
+    ≡ ran Finished (log [] (3 ∷ []) (0 ∷ [])) (0 ∷ 1 ∷ []) [] ∷ ran (Faulted 2 1) none (0 ∷ 1 ∷ []) [] ∷ []
 unfolding opened
-load-4-of-4 = refl
+store-3-and-4 = refl
 
--- case 8 of the bench sheet
-store-3-of-4 : run (set 0 3 ∷ store 0 1 ∷ []) (fives 4) ≡ ran Finished (log [] (3 ∷ []) (0 ∷ [])) (0 ∷ 1 ∷ []) []
+load-255-and-256 : map (λ c. run (set 1 c ∷ load 0 1 ∷ []) (fives 256)) (255 ∷ 256 ∷ [])
+    ≡ ran Finished (log (255 ∷ []) [] []) (0 ∷ 1 ∷ []) (5 ∷ []) ∷ ran (Faulted 1 1) none (0 ∷ 1 ∷ []) [] ∷ []
 unfolding opened
-store-3-of-4 = refl
+load-255-and-256 = refl
 
-store-4-of-4 : run (set 0 4 ∷ store 0 1 ∷ []) (fives 4) ≡ ran (Faulted 2 1) none (0 ∷ 1 ∷ []) []
+store-255-and-256 : map (λ c. run (set 0 c ∷ store 0 1 ∷ []) (fives 256)) (255 ∷ 256 ∷ [])
+    ≡ ran Finished (log [] (255 ∷ []) (0 ∷ [])) (0 ∷ 1 ∷ []) [] ∷ ran (Faulted 2 1) none (0 ∷ 1 ∷ []) [] ∷ []
 unfolding opened
-store-4-of-4 = refl
+store-255-and-256 = refl
 
-load-and-store-0-of-1 : run (load 1 0 ∷ store 0 1 ∷ []) (fives 1) ≡ ran Finished (log (0 ∷ []) (0 ∷ []) (5 ∷ [])) (0 ∷ 1 ∷ []) (5 ∷ [])
-unfolding opened
-load-and-store-0-of-1 = refl
-
-load-and-store-255-of-256 : run (set 0 255 ∷ load 1 0 ∷ store 0 1 ∷ []) (fives 256)
-    ≡ ran Finished (log (255 ∷ []) (255 ∷ []) (5 ∷ [])) (0 ∷ 1 ∷ 2 ∷ []) (5 ∷ [])
-unfolding opened
-load-and-store-255-of-256 = refl
-
-store-256-of-256 : run (set 0 256 ∷ store 0 1 ∷ []) (fives 256) ≡ ran (Faulted 2 1) none (0 ∷ 1 ∷ []) []
-unfolding opened
-store-256-of-256 = refl
-
+-- the largest cell number there is
 load-the-last-number : run (set 1 1 ∷ sub 2 0 1 ∷ load 0 2 ∷ []) (fives 1) ≡ ran (Faulted 1 2) none (0 ∷ 1 ∷ 2 ∷ []) []
 unfolding opened
 load-the-last-number = refl
