@@ -16,6 +16,10 @@ use Rattle.image.specs.Bench.{example-1, example-2, example-3, empty}
 abbrev pub refusals : List (List ℕ) → List ℕ
 refusals = map (λ i. refusalOf i)
 
+-- the refusal's number where a program is asked for
+abbrev programRefusal : List ℕ → ℕ → ℕ
+programRefusal i p = programRefusalOf i p
+
 -- ---- "Sizes"
 
 -- "The limits belong to the image and are named in one place: 0 to 64 programs, 0 to 32 instructions each, 8 registers, 1 to 256 cells"
@@ -172,15 +176,16 @@ handed-back : (map (programOf two) (0 ∷ 1 ∷ []) ≡ (8 ∷ 7 ∷ 0 ∷ 0 ∷
 unfolding opened
 handed-back = (refl, refl)
 
--- "checks 1 to 4 and 8", "program number n or more"; program 2 of an image that is refused for 1, 2, 3, 4, and then programs 1, 2, 3 of two
+-- "checks 1 to 4 and 8": program 2 of images that are refused for 1, 2, 3, 4 and have no program 2 either; then programs 1, 2, 3 of the two.
+-- "8: program number n or more"
 abbrev asked : {A : Type 0} → (List ℕ → ℕ → A) → List A
 asked f = map (λ i. f i 2) (take 5 empty ∷ image 3 [] ∷ (two ++ (0 ∷ [])) ∷ bad ∷ []) ++ map (f two) (1 ∷ 2 ∷ 3 ∷ [])
 
-program-refusals : asked (λ i p. programRefusalOf i p) ≡ 1 ∷ 2 ∷ 3 ∷ 4 ∷ 0 ∷ 8 ∷ 8 ∷ []
+program-refusals : asked programRefusal ≡ 1 ∷ 2 ∷ 3 ∷ 4 ∷ 0 ∷ 8 ∷ 8 ∷ []
 unfolding opened
 program-refusals = refl
 
-no-program-0 : programRefusalOf empty 0 ≡ 8
+no-program-0 : programRefusal empty 0 ≡ 8
 unfolding opened
 no-program-0 = refl
 

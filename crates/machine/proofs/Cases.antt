@@ -43,7 +43,7 @@ from first (suc n) = first ∷ from (suc first) n
 
 -- ---- "Arriving at m is an end."
 
--- of no instructions; past the last one; by a skip; by a skip that is not taken, which does not arrive; past a skip of none
+-- of no instructions; past the last one; by a skip; and a skip that is not taken, which does not arrive there
 no-instructions : run [] (fives 1) ≡ ran Finished none [] []
 unfolding opened
 no-instructions = refl
