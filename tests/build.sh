@@ -1,5 +1,6 @@
+# shellcheck shell=bash
 # What the scripts of tests/ and bench/ share: where things are built, and what they need.
-# Sourced by them from the repository's root. Everything built lies under target/tests.
+# Sourced by them, in bash, from the repository's root. Everything built lies under target/tests.
 
 . tools/x86-64.sh
 

@@ -1,4 +1,5 @@
-# Programs and the archive are x86-64 code. What the scripts share that compile, link or run such code on any machine; sourced by them.
+# shellcheck shell=bash
+# Programs and the archive are x86-64 code. What the scripts share that compile, link or run such code on any machine; sourced by them, in bash.
 
 # Says in one line what is missing, and ends.
 missing() {
