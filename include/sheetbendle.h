@@ -13,12 +13,26 @@
  *
  * Who owns what. The caller owns every buffer. The library keeps nothing between calls, has no
  * memory of its own and never asks for any; a batch lives in its image, table and area alone. So
- * several batches can be under way at once, each with its own buffers. From its opening to its next
- * image a batch is lent the same image, table and area at every call, and nobody else changes them.
+ * several batches can be under way at once, each with its own table and area. From its opening to
+ * its next image a batch is lent the same image, table and area at every call, and nobody else
+ * changes them.
  *
- * Buffers. The buffers of one call must not overlap. Each pointer goes with its length: in bytes
- * for an image, in cells for a table, in words for an area, in entries for a list. A null pointer
- * goes with length 0. A buffer of words is aligned as uint32_t asks.
+ * Buffers. A buffer that a call may change, which is one whose pointer is not const, must not
+ * overlap another buffer of that call; buffers that it only reads may overlap. Each pointer goes
+ * with its length: in bytes for an image, in cells for a table, in words for an area, in entries
+ * for a list. A null pointer goes with length 0. A buffer of words is aligned as uint32_t asks.
+ *
+ * Threads. Calls may be made from any thread, also at the same time or from a handler that
+ * interrupts another call, as long as no buffer that one of the calls under way may change overlaps
+ * a buffer lent to another of them. So gatherings of one batch go one after the other, since each
+ * changes the area; but boards with tables and areas of their own can share one image.
+ *
+ * What it needs. The archive is x86-64 code today, for the System V calling convention. From
+ * outside it needs one function, memset. The deepest stack of each call in bytes, from the caller's
+ * frame down, as bench/run measures it on x86-64:
+ *
+ *     program   program_refusal   open   gather   settle   order   next_image
+ *         120               104    120      808      248     808          280
  *
  * Refusals. Every call may be lent anything: it checks first, in the order of the numbers below
  * (the next image: 1 to 7, 9, 21 to 24, 11, 10), and the first that holds is returned. A refused
@@ -73,6 +87,13 @@
 extern "C" {
 #endif
 
+/*
+ * The number of what this header declares: raised by every change of a signature, a state, a
+ * refusal, a size or a place in memory. A program that was written for this one can ask for it:
+ * #if SHEETBENDLE_VERSION != 1
+ */
+#define SHEETBENDLE_VERSION 1
+
 /* Limits. */
 #define SHEETBENDLE_PROGRAMS 64     /* the most programs of an image */
 #define SHEETBENDLE_INSTRUCTIONS 32 /* the most instructions of a program, of 4 bytes each */
@@ -85,9 +106,51 @@ extern "C" {
 #define SHEETBENDLE_LONGEST_IMAGE \
     SHEETBENDLE_IMAGE_BYTES(SHEETBENDLE_PROGRAMS, SHEETBENDLE_PROGRAMS * SHEETBENDLE_INSTRUCTIONS) /* 8326 bytes */
 
-/* The words of an area: T write marks, T read marks, and a slot for each program. */
-#define SHEETBENDLE_SLOT_WORDS 100u
-#define SHEETBENDLE_AREA_WORDS(cells, programs) (2u * (cells) + SHEETBENDLE_SLOT_WORDS * (programs))
+/* The program count of an image, which its first two bytes say. */
+#define SHEETBENDLE_PROGRAM_COUNT(image) ((size_t)(image)[0] + 256u * (size_t)(image)[1])
+
+/* Rules, for byte 2 of an image. */
+#define SHEETBENDLE_DEFAULT_RULE 0u /* means Rule 1 */
+#define SHEETBENDLE_RULE_1 1u
+#define SHEETBENDLE_RULE_2 2u
+
+/* Operations; the list above says what each does. */
+#define SHEETBENDLE_OP_END 0u
+#define SHEETBENDLE_OP_SET 1u
+#define SHEETBENDLE_OP_LOAD 2u
+#define SHEETBENDLE_OP_STORE 3u
+#define SHEETBENDLE_OP_ADD 4u
+#define SHEETBENDLE_OP_SUB 5u
+#define SHEETBENDLE_OP_SKIPLESS 6u
+#define SHEETBENDLE_OP_SKIPEQUAL 7u
+#define SHEETBENDLE_OP_REJECT 8u
+
+/*
+ * The words of a slot, from its start. The cells that a program read, those that it stored and the
+ * stored values are three lists, each in order of first use; words behind the counted ones are 0.
+ * A rejected or faulted program's slot has only state and detail.
+ */
+#define SHEETBENDLE_SLOT_STATE 0u
+#define SHEETBENDLE_SLOT_DETAIL 1u
+#define SHEETBENDLE_SLOT_READ_COUNT 2u
+#define SHEETBENDLE_SLOT_STORE_COUNT 3u
+#define SHEETBENDLE_SLOT_LIST_WORDS 32u /* of each list */
+#define SHEETBENDLE_SLOT_READS 4u
+#define SHEETBENDLE_SLOT_STORES (SHEETBENDLE_SLOT_READS + SHEETBENDLE_SLOT_LIST_WORDS)  /* 36 */
+#define SHEETBENDLE_SLOT_VALUES (SHEETBENDLE_SLOT_STORES + SHEETBENDLE_SLOT_LIST_WORDS) /* 68 */
+#define SHEETBENDLE_SLOT_WORDS (SHEETBENDLE_SLOT_VALUES + SHEETBENDLE_SLOT_LIST_WORDS)  /* 100 */
+
+/*
+ * Where things begin in an area on a table of so many cells, in words: a write mark for each cell, a
+ * read mark for each cell, a slot for each program by its number. A mark is 0, or 1 + the smallest
+ * number of a gathered program that stores, or reads, the cell.
+ */
+#define SHEETBENDLE_WRITE_MARKS(cells) 0u
+#define SHEETBENDLE_READ_MARKS(cells) (cells)
+#define SHEETBENDLE_SLOT(cells, program) (2u * (cells) + SHEETBENDLE_SLOT_WORDS * (program))
+
+/* The words of an area. */
+#define SHEETBENDLE_AREA_WORDS(cells, programs) SHEETBENDLE_SLOT(cells, programs)
 
 /* Refusals; the table above says when. */
 #define SHEETBENDLE_DONE 0u
