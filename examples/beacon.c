@@ -16,8 +16,14 @@
 /* The beacon's cells: beacons sent, the count last reported, millivolts, seconds between beacons. */
 enum { SENT, REPORT, BATTERY, INTERVAL, CELLS };
 
-/* Operations. */
-enum { END, SET, LOAD, STORE, ADD, SUB, SKIPLESS, SKIPEQUAL, REJECT };
+/* The operations that the programs below use, by short names. */
+enum {
+    SET = SHEETBENDLE_OP_SET,
+    LOAD = SHEETBENDLE_OP_LOAD,
+    STORE = SHEETBENDLE_OP_STORE,
+    ADD = SHEETBENDLE_OP_ADD,
+    SKIPLESS = SHEETBENDLE_OP_SKIPLESS
+};
 
 /* Bytes b and c of a set. */
 #define NUMBER(n) (n) / 256, (n) % 256
@@ -83,7 +89,7 @@ static void put_number(uint8_t *place, size_t number) {
 static size_t make_image(uint8_t *out, const struct program *programs, size_t programs_count) {
     size_t offset = SHEETBENDLE_IMAGE_BYTES(programs_count, 0), i;
     put_number(out, programs_count);
-    out[2] = 2;
+    out[2] = SHEETBENDLE_RULE_2;
     out[3] = 0;
     put_number(out + 4, offset);
     for (i = 0; i < programs_count; i++) {
@@ -104,8 +110,11 @@ static void check(const char *call, uint32_t refusal) {
 
 /* Opens, gathers and settles a batch, and prints what came of it. */
 static void run_batch(size_t bytes) {
-    static const char *const words[] = { "waiting", "gathered", "rejected", "faulted", "committed", "carried" };
-    size_t n = image[0] + 256u * image[1], area_words = SHEETBENDLE_AREA_WORDS(CELLS, n), i;
+    static const char *const words[] = {
+        [SHEETBENDLE_WAITING] = "waiting",   [SHEETBENDLE_GATHERED] = "gathered",   [SHEETBENDLE_REJECTED] = "rejected",
+        [SHEETBENDLE_FAULTED] = "faulted",   [SHEETBENDLE_COMMITTED] = "committed", [SHEETBENDLE_CARRIED] = "carried",
+    };
+    size_t n = SHEETBENDLE_PROGRAM_COUNT(image), area_words = SHEETBENDLE_AREA_WORDS(CELLS, n), i;
     sheetbendle_step steps[SHEETBENDLE_PROGRAMS];
     sheetbendle_count order;
 
@@ -134,7 +143,7 @@ static void run_batch(size_t bytes) {
 
 /* The carried programs and the fresh ones become the image; returns its length. */
 static size_t take_up_next_image(size_t bytes, size_t fresh_bytes) {
-    size_t n = image[0] + 256u * image[1];
+    size_t n = SHEETBENDLE_PROGRAM_COUNT(image);
     sheetbendle_count length =
         sheetbendle_next_image(image, bytes, table, CELLS, area, SHEETBENDLE_AREA_WORDS(CELLS, n),
                                fresh, fresh_bytes, next, sizeof next);

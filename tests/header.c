@@ -1,16 +1,53 @@
-/* The header's numbers are document 01's: each is written here once more, from the document, and compared when this is compiled. */
-#include "sheetbendle.h"
+/*
+ * The header's numbers are document 01's: each is written here once more, from the document, and compared when this is compiled. So is where each
+ * member of a returned struct lies: the archive counts on it.
+ */
+#include <sheetbendle.h>
 
 #define IS(name, number) _Static_assert((name) == (number), #name " is not document 01's number")
 
-/* "Sizes" and "The work area". */
+/* "Sizes". */
 IS(SHEETBENDLE_PROGRAMS, 64);
 IS(SHEETBENDLE_INSTRUCTIONS, 32);
 IS(SHEETBENDLE_REGISTERS, 8);
 IS(SHEETBENDLE_CELLS, 256);
 IS(SHEETBENDLE_SHORTEST_IMAGE, 6);
 IS(SHEETBENDLE_LONGEST_IMAGE, 8326);
-IS(SHEETBENDLE_AREA_WORDS(2, 3), 2 * 2 + 100 * 3);
+
+/* "The image: counts and offsets". */
+IS(SHEETBENDLE_IMAGE_BYTES(3, 5), 2 * 3 + 6 + 4 * 5);
+IS(SHEETBENDLE_DEFAULT_RULE, 0);
+IS(SHEETBENDLE_RULE_1, 1);
+IS(SHEETBENDLE_RULE_2, 2);
+
+/* "Instructions". */
+IS(SHEETBENDLE_OP_END, 0);
+IS(SHEETBENDLE_OP_SET, 1);
+IS(SHEETBENDLE_OP_LOAD, 2);
+IS(SHEETBENDLE_OP_STORE, 3);
+IS(SHEETBENDLE_OP_ADD, 4);
+IS(SHEETBENDLE_OP_SUB, 5);
+IS(SHEETBENDLE_OP_SKIPLESS, 6);
+IS(SHEETBENDLE_OP_SKIPEQUAL, 7);
+IS(SHEETBENDLE_OP_REJECT, 8);
+
+/* "The work area": T write marks, T read marks, then a slot of 100 words per program; here T is 5. */
+IS(SHEETBENDLE_WRITE_MARKS(5), 0);
+IS(SHEETBENDLE_READ_MARKS(5), 5);
+IS(SHEETBENDLE_SLOT(5, 0), 2 * 5);
+IS(SHEETBENDLE_SLOT(5, 3), 2 * 5 + 100 * 3);
+IS(SHEETBENDLE_AREA_WORDS(5, 3), 2 * 5 + 100 * 3);
+IS(SHEETBENDLE_SLOT_WORDS, 100);
+
+/* State, detail, read count, store count, 32 read cells, 32 stored cells, 32 stored values. */
+IS(SHEETBENDLE_SLOT_STATE, 0);
+IS(SHEETBENDLE_SLOT_DETAIL, 1);
+IS(SHEETBENDLE_SLOT_READ_COUNT, 2);
+IS(SHEETBENDLE_SLOT_STORE_COUNT, 3);
+IS(SHEETBENDLE_SLOT_READS, 4);
+IS(SHEETBENDLE_SLOT_STORES, 4 + 32);
+IS(SHEETBENDLE_SLOT_VALUES, 4 + 32 + 32);
+IS(SHEETBENDLE_SLOT_LIST_WORDS, 32);
 
 /* "What each refusal says". */
 IS(SHEETBENDLE_DONE, 0);
@@ -44,6 +81,27 @@ IS(SHEETBENDLE_WAW, 1);
 IS(SHEETBENDLE_RAW, 2);
 IS(SHEETBENDLE_RAW_WITH_WAR, 3);
 
+/* Where the members of the structs lie. */
+#define MEMBER(type, member, offset, size)                                                                        \
+    _Static_assert(offsetof(type, member) == (offset), #type "." #member " does not lie where the archive has it"); \
+    _Static_assert(sizeof(((type *)0)->member) == (size), #type "." #member " has another size than in the archive")
+#define SIZE(type, size) _Static_assert(sizeof(type) == (size), #type " has another size than in the archive")
+
+MEMBER(sheetbendle_step, refusal, 0, 4);
+MEMBER(sheetbendle_step, state, 4, 4);
+MEMBER(sheetbendle_step, detail, 8, 4);
+SIZE(sheetbendle_step, 12);
+
+MEMBER(sheetbendle_count, refusal, 0, 4);
+MEMBER(sheetbendle_count, count, 4, 4);
+SIZE(sheetbendle_count, 8);
+
+MEMBER(sheetbendle_part, start, 0, sizeof(size_t));
+MEMBER(sheetbendle_part, length, sizeof(size_t), sizeof(size_t));
+SIZE(sheetbendle_part, 2 * sizeof(size_t));
+
+/* The program count of an image lies in two bytes, the low one first, which no constant can show. */
 int main(void) {
-    return 0;
+    static const uint8_t image[] = { 3, 2 };
+    return SHEETBENDLE_PROGRAM_COUNT(image) == 3 + 256 * 2 ? 0 : 1;
 }
