@@ -1,0 +1,151 @@
+/*
+ * Each of the seven functions is called through the header where the members of its answer are told apart: a member that lies in another's place, in the
+ * header or in the archive, is noticed here. So is a word of the area that does not lie where the header says. Every expected number is worked
+ * out by hand from document 01.
+ */
+#include <sheetbendle.h>
+#include <stdio.h>
+
+enum { CELLS = 4, PROGRAMS = 5, WORDS = SHEETBENDLE_AREA_WORDS(CELLS, PROGRAMS) };
+
+static const uint8_t image[] = {
+    PROGRAMS, 0, SHEETBENDLE_RULE_2, 0,
+    16, 0, 32, 0, 40, 0, 56, 0, 68, 0, 72, 0,
+    /* 0 copies cell 1 into cell 2. */
+    SHEETBENDLE_OP_SET, 0, 0, 1,
+    SHEETBENDLE_OP_LOAD, 1, 0, 0,
+    SHEETBENDLE_OP_SET, 2, 0, 2,
+    SHEETBENDLE_OP_STORE, 2, 1, 0,
+    /* 1 stores in cell 4 of 4: a fault of kind 2 at instruction 1. */
+    SHEETBENDLE_OP_SET, 0, 0, 4,
+    SHEETBENDLE_OP_STORE, 0, 0, 0,
+    /* 2 copies cell 2 into cell 1: it reads what 0 stores and stores what 0 reads. */
+    SHEETBENDLE_OP_SET, 0, 0, 2,
+    SHEETBENDLE_OP_LOAD, 1, 0, 0,
+    SHEETBENDLE_OP_SET, 2, 0, 1,
+    SHEETBENDLE_OP_STORE, 2, 1, 0,
+    /* 3 stores 300 in cell 3. */
+    SHEETBENDLE_OP_SET, 0, 0, 3,
+    SHEETBENDLE_OP_SET, 1, 1, 44,
+    SHEETBENDLE_OP_STORE, 0, 1, 0,
+    /* 4 rejects. */
+    SHEETBENDLE_OP_REJECT, 77, 0, 0,
+};
+
+/* One program, which is empty. */
+static const uint8_t fresh[] = { 1, 0, SHEETBENDLE_RULE_1, 0, 8, 0, 8, 0 };
+
+static uint32_t table[CELLS] = { 10, 11, 12, 13 };
+static uint32_t area[WORDS];
+static uint32_t list[PROGRAMS] = { 90, 91, 92, 93, 94 };
+static uint8_t out[SHEETBENDLE_LONGEST_IMAGE];
+
+static unsigned passed, failed;
+
+static void is(const char *what, unsigned line, unsigned long got, unsigned long expected) {
+    if (got == expected) {
+        passed++;
+    } else {
+        failed++;
+        printf("tests/values.c:%u: %s is %lu, not %lu\n", line, what, got, expected);
+    }
+}
+
+#define IS(got, expected) is(#got, __LINE__, got, expected)
+
+/* Everything lent to most calls. */
+#define LENT image, sizeof image, table, CELLS, area, WORDS
+
+#define STEP_IS(call, refusal_, state_, detail_) \
+    do {                                         \
+        sheetbendle_step step = call;            \
+        IS(step.refusal, refusal_);              \
+        IS(step.state, state_);                  \
+        IS(step.detail, detail_);                \
+    } while (0)
+
+#define COUNT_IS(call, refusal_, count_)  \
+    do {                                  \
+        sheetbendle_count answer = call;  \
+        IS(answer.refusal, refusal_);     \
+        IS(answer.count, count_);         \
+    } while (0)
+
+#define PART_IS(call, start_, length_)  \
+    do {                                \
+        sheetbendle_part part = call;   \
+        IS(part.start, start_);         \
+        IS(part.length, length_);       \
+    } while (0)
+
+/* A slot with one read and one store. */
+static void slot_is(size_t program, uint32_t state, uint32_t detail, uint32_t read, uint32_t store, uint32_t value) {
+    const uint32_t *slot = area + SHEETBENDLE_SLOT(CELLS, program);
+    IS(slot[SHEETBENDLE_SLOT_STATE], state);
+    IS(slot[SHEETBENDLE_SLOT_DETAIL], detail);
+    IS(slot[SHEETBENDLE_SLOT_READ_COUNT], 1);
+    IS(slot[SHEETBENDLE_SLOT_STORE_COUNT], 1);
+    IS(slot[SHEETBENDLE_SLOT_READS], read);
+    IS(slot[SHEETBENDLE_SLOT_STORES], store);
+    IS(slot[SHEETBENDLE_SLOT_VALUES], value);
+}
+
+int main(void) {
+    const uint32_t *writes = area + SHEETBENDLE_WRITE_MARKS(CELLS), *reads = area + SHEETBENDLE_READ_MARKS(CELLS), *slot;
+
+    PART_IS(sheetbendle_program(image, sizeof image, 2), 40, 16);
+    PART_IS(sheetbendle_program(image, sizeof image, PROGRAMS), 0, 0);
+    IS(sheetbendle_program_refusal(image, sizeof image, 2), SHEETBENDLE_DONE);
+    IS(sheetbendle_program_refusal(image, sizeof image, PROGRAMS), SHEETBENDLE_REFUSED_NUMBER);
+    IS(SHEETBENDLE_PROGRAM_COUNT(image), 5);
+
+    IS(sheetbendle_open(image, sizeof image, table, CELLS, area, WORDS - 1), SHEETBENDLE_REFUSED_AREA_SIZE);
+    IS(sheetbendle_open(LENT), SHEETBENDLE_DONE);
+
+    STEP_IS(sheetbendle_gather(LENT, 4), SHEETBENDLE_DONE, SHEETBENDLE_REJECTED, 77);
+    STEP_IS(sheetbendle_gather(LENT, 1), SHEETBENDLE_DONE, SHEETBENDLE_FAULTED, 513);
+    STEP_IS(sheetbendle_gather(LENT, 3), SHEETBENDLE_DONE, SHEETBENDLE_GATHERED, 0);
+    STEP_IS(sheetbendle_gather(LENT, 2), SHEETBENDLE_DONE, SHEETBENDLE_GATHERED, 0);
+    STEP_IS(sheetbendle_gather(LENT, 2), SHEETBENDLE_REFUSED_STATE, 0, 0);
+    STEP_IS(sheetbendle_settle(LENT, 2), SHEETBENDLE_REFUSED_STATE, 0, 0);
+    STEP_IS(sheetbendle_gather(LENT, 0), SHEETBENDLE_DONE, SHEETBENDLE_GATHERED, 0);
+
+    IS(writes[0], 0);
+    IS(writes[1], 3);
+    IS(writes[2], 1);
+    IS(writes[3], 4);
+    IS(reads[0], 0);
+    IS(reads[1], 1);
+    IS(reads[2], 3);
+    IS(reads[3], 0);
+    slot_is(0, SHEETBENDLE_GATHERED, 0, 1, 2, 11);
+    slot = area + SHEETBENDLE_SLOT(CELLS, 1);
+    IS(slot[SHEETBENDLE_SLOT_STATE], SHEETBENDLE_FAULTED);
+    IS(slot[SHEETBENDLE_SLOT_DETAIL], 256 * SHEETBENDLE_FAULT_AT_STORE + 1);
+
+    COUNT_IS(sheetbendle_order(LENT, list, PROGRAMS), SHEETBENDLE_REFUSED_STATE, 0);
+    STEP_IS(sheetbendle_settle(LENT, 2), SHEETBENDLE_DONE, SHEETBENDLE_CARRIED, SHEETBENDLE_RAW_WITH_WAR);
+    STEP_IS(sheetbendle_settle(LENT, 3), SHEETBENDLE_DONE, SHEETBENDLE_COMMITTED, 0);
+    STEP_IS(sheetbendle_settle(LENT, 0), SHEETBENDLE_DONE, SHEETBENDLE_COMMITTED, 0);
+    STEP_IS(sheetbendle_settle(LENT, PROGRAMS), SHEETBENDLE_REFUSED_NUMBER, 0, 0);
+    slot_is(2, SHEETBENDLE_CARRIED, SHEETBENDLE_RAW_WITH_WAR, 2, 1, 12);
+    IS(table[0], 10);
+    IS(table[1], 11);
+    IS(table[2], 11);
+    IS(table[3], 300);
+
+    COUNT_IS(sheetbendle_order(LENT, list, PROGRAMS - 1), SHEETBENDLE_REFUSED_TOO_SHORT, 0);
+    COUNT_IS(sheetbendle_order(LENT, list, PROGRAMS), SHEETBENDLE_DONE, 2);
+    IS(list[0], 0);
+    IS(list[1], 3);
+    IS(list[2], 92);
+
+    COUNT_IS(sheetbendle_next_image(LENT, fresh, 5, out, sizeof out), SHEETBENDLE_REFUSED_FRESH_IMAGE_SIZE, 0);
+    COUNT_IS(sheetbendle_next_image(LENT, fresh, sizeof fresh, out, sizeof out), SHEETBENDLE_DONE, 26);
+    PART_IS(sheetbendle_program(out, 26, 0), 10, 16);
+    IS(out[10 + 3], 2);
+    IS(out[2], SHEETBENDLE_RULE_1);
+
+    printf("values in C: %u passed, %u failed\n", passed, failed);
+    return failed == 0 ? 0 : 1;
+}
