@@ -4,21 +4,31 @@ use crate::calls::{Answer, Call};
 use crate::lent::Lent;
 use plain::area::{CARRIED, COMMITTED, FAULTED, GATHERED, REJECTED};
 use plain::machine::{FAULT_AT_LOAD, FAULT_AT_STORE};
-use plain::refusal::DONE;
+use plain::refusal::{self, DONE};
 use plain::steps::{RAW, RAW_WITH_WAR, WAW};
-use std::collections::BTreeMap;
+use std::collections::{BTreeMap, BTreeSet};
 use std::fmt;
 
 /// Each call with the refusals that it can give: document 01, "What each refusal says".
-const REFUSALS: [(&str, &[u32]); 7] = [
-    ("program", &[0, 1, 2, 3, 4, 8]),
-    ("program_refusal", &[0, 1, 2, 3, 4, 8]),
-    ("open", &[0, 1, 2, 3, 4, 5, 6]),
-    ("gather", &[0, 1, 2, 3, 4, 5, 6, 7, 8, 9]),
-    ("settle", &[0, 1, 2, 3, 4, 5, 6, 7, 8, 9]),
-    ("order", &[0, 1, 2, 3, 4, 5, 6, 7, 9, 10, 12]),
-    ("next_image", &[0, 1, 2, 3, 4, 5, 6, 7, 9, 10, 11, 21, 22, 23, 24]),
-];
+fn refusals() -> [(&'static str, Vec<u32>); 7] {
+    let of_image = [refusal::IMAGE_SIZE, refusal::HEADER, refusal::OFFSETS, refusal::INSTRUCTION];
+    let program = [&[DONE], &of_image[..], &[refusal::NUMBER]].concat();
+    let open = [&[DONE], &of_image[..], &[refusal::TABLE_SIZE, refusal::AREA_SIZE]].concat();
+    let later = [&open[..], &[refusal::AREA, refusal::STATE]].concat();
+    let step = [&later[..], &[refusal::NUMBER]].concat();
+    let order = [&later[..], &[refusal::TOO_SHORT, refusal::NO_ORDER]].concat();
+    let of_fresh = of_image.map(|refusal| refusal::FRESH + refusal);
+    let next_image = [&later[..], &[refusal::TOO_SHORT, refusal::TOO_MANY], &of_fresh].concat();
+    [
+        ("program", program.clone()),
+        ("program_refusal", program),
+        ("open", open),
+        ("gather", step.clone()),
+        ("settle", step),
+        ("order", order),
+        ("next_image", next_image),
+    ]
+}
 
 /// What may come of a call that is done.
 const OUTCOMES: [&str; 11] = [
@@ -60,7 +70,7 @@ impl Tally {
     /// What can come and never came.
     pub fn never_seen(&self) -> Vec<String> {
         let mut never = Vec::new();
-        for (call, refusals) in REFUSALS {
+        for (call, refusals) in refusals() {
             let unseen = refusals.iter().filter(|&&refusal| self.seen(call, refusal) == 0);
             never.extend(unseen.map(|refusal| format!("{call} with refusal {refusal}")));
         }
@@ -125,14 +135,16 @@ fn outcome_of_step(state: u32, detail: u32) -> &'static str {
 
 impl fmt::Display for Tally {
     fn fmt(&self, text: &mut fmt::Formatter) -> fmt::Result {
+        let calls = refusals();
+        let rows: BTreeSet<u32> = calls.iter().flat_map(|(_, refusals)| refusals).copied().collect();
         write!(text, "refusal")?;
-        for (call, _) in REFUSALS {
+        for (call, _) in &calls {
             write!(text, " {call:>15}")?;
         }
         writeln!(text)?;
-        for refusal in (0..=12).chain(21..=24) {
+        for refusal in rows {
             write!(text, "{refusal:>7}")?;
-            for (call, refusals) in REFUSALS {
+            for (call, refusals) in &calls {
                 if refusals.contains(&refusal) {
                     write!(text, " {:>15}", self.seen(call, refusal))?;
                 } else {

@@ -4,7 +4,7 @@
 use crate::assembler::{add, image, load, reject, set, skipequal, skipless, store, sub, Instruction};
 use crate::assembler::{R0, R1, R2, R3};
 use plain::area::{CARRIED, COMMITTED, FAULTED, REJECTED};
-use plain::refusal::INSTRUCTION;
+use plain::refusal;
 use plain::steps::{RAW, RAW_WITH_WAR, WAW};
 
 /// "Cells 0, 1, 2 are x, y, z."
@@ -190,5 +190,6 @@ fn case_14a() -> Case {
 /// 14. One further gives 4. It would not be taken.
 fn case_14b() -> Case {
     let programs = [vec![set(R1, 1), skipequal(R0, R1, 2), store(R0, R1)]];
-    Case { name: "14b", table: vec![1, 2, 3], image: image(1, &programs), expected: Err(INSTRUCTION) }
+    let expected = Err(refusal::INSTRUCTION);
+    Case { name: "14b", table: vec![1, 2, 3], image: image(1, &programs), expected }
 }

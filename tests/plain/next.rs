@@ -3,8 +3,7 @@
 
 use crate::area::{self, CARRIED, GATHERED};
 use crate::image::{first_offset, Image, PROGRAMS};
-use crate::refusal::{self, FRESH};
-use crate::Count;
+use crate::{refusal, Count};
 
 /// "The carried programs in number order, then the fresh image's programs, with the fresh image's
 /// rule byte." The output beyond the image is untouched.
@@ -23,7 +22,7 @@ fn next_image_checked(
     if area::states(area, table.len()).any(|state| state <= GATHERED) {
         return Err(refusal::STATE);
     }
-    let fresh = Image::check(fresh).map_err(|refusal| FRESH + refusal)?;
+    let fresh = Image::check(fresh).map_err(|refusal| refusal::FRESH + refusal)?;
     let next = || {
         let carried = area::states(area, table.len()).enumerate().filter(|&(_, state)| state == CARRIED);
         let carried_programs = carried.map(|(number, _)| image.program(number));

@@ -1,7 +1,10 @@
 //! Every row of "What each refusal says", in every way to earn it, for every call that can.
 
 use material::assembler::{end, image, load, set, store, Instruction, R0, R1};
-use plain::area::{words, CARRIED, COMMITTED, GATHERED, READS, READ_COUNT, SLOT_WORDS, STORES, STORE_COUNT};
+use plain::area::{words, DETAIL, READS, READ_COUNT, SLOT_WORDS, STATE, STORES, STORE_COUNT};
+use plain::area::{CARRIED, COMMITTED, FAULTED, GATHERED, REJECTED, WAITING};
+use plain::refusal::{self, DONE};
+use plain::steps::{RAW, RAW_WITH_WAR, WAW};
 use plain::{gather, next_image, open, order, program, program_refusal, settle};
 
 const CELLS: usize = 3;
@@ -33,7 +36,7 @@ impl Lent {
     fn in_states(states: [u32; 2]) -> Lent {
         let mut lent = Lent::opened();
         for (number, state) in states.into_iter().enumerate() {
-            *lent.slot_word(number, 0) = state;
+            *lent.slot_word(number, STATE) = state;
         }
         lent
     }
@@ -70,7 +73,7 @@ impl Lent {
         let before = (self.table.clone(), self.area.clone(), self.list.clone(), self.out.clone());
         let refusal = call(self);
         let after = (&self.table, &self.area, &self.list, &self.out);
-        assert!(refusal == 0 || (&before.0, &before.1, &before.2, &before.3) == after);
+        assert!(refusal == DONE || (&before.0, &before.1, &before.2, &before.3) == after);
         refusal
     }
 
@@ -99,24 +102,49 @@ fn changed(change: impl Fn(&mut Vec<u8>)) -> Vec<u8> {
     image
 }
 
-/// An image gives this number at every call, and that plus 20 as the fresh one.
+/// An image gives this number at every call, and that of a fresh image where it is the fresh one.
 fn assert_image_refused(image: &[u8], refusal: u32) {
     assert_eq!(program_refusal(image, 0), refusal);
     assert!(program(image, 0).is_empty());
     Lent { image: image.to_vec(), ..Lent::opened() }.assert_all_refuse(refusal);
     let mut lent = Lent { fresh: image.to_vec(), ..Lent::in_states([COMMITTED, CARRIED]) };
-    assert_eq!(lent.next_image(), 20 + refusal);
+    assert_eq!(lent.next_image(), refusal::FRESH + refusal);
+}
+
+/// The names that the tests below use stand for the document's numbers; so do those of the states
+/// and of the reasons to carry a program.
+#[test]
+fn names_are_the_documents_numbers() {
+    let refusals = [
+        DONE,
+        refusal::IMAGE_SIZE,
+        refusal::HEADER,
+        refusal::OFFSETS,
+        refusal::INSTRUCTION,
+        refusal::TABLE_SIZE,
+        refusal::AREA_SIZE,
+        refusal::AREA,
+        refusal::NUMBER,
+        refusal::STATE,
+        refusal::TOO_SHORT,
+        refusal::TOO_MANY,
+        refusal::NO_ORDER,
+    ];
+    assert!(refusals.into_iter().eq(0..=12));
+    assert_eq!(refusal::FRESH, 20);
+    assert_eq!([WAITING, GATHERED, REJECTED, FAULTED, COMMITTED, CARRIED], [0, 1, 2, 3, 4, 5]);
+    assert_eq!([WAW, RAW, RAW_WITH_WAR], [1, 2, 3]);
 }
 
 #[test]
 fn row_0_done() {
     let mut lent = Lent::opened();
-    assert_eq!(program_refusal(&lent.image, 1), 0);
+    assert_eq!(program_refusal(&lent.image, 1), DONE);
     assert_eq!(program(&lent.image, 1), load(R1, R0));
-    assert_eq!(lent.open(), 0);
-    assert_eq!([lent.gather(1), lent.gather(0)], [0, 0]);
-    assert_eq!([lent.settle(1), lent.settle(0)], [0, 0]);
-    assert_eq!((lent.order(), lent.next_image()), (0, 0));
+    assert_eq!(lent.open(), DONE);
+    assert_eq!([lent.gather(1), lent.gather(0)], [DONE, DONE]);
+    assert_eq!([lent.settle(1), lent.settle(0)], [DONE, DONE]);
+    assert_eq!((lent.order(), lent.next_image()), (DONE, DONE));
     assert_eq!(lent.table, [1, 5, 5]);
     assert_eq!(lent.list, [0, 9], "beyond the committed count the list is untouched");
     let next = image(2, &[vec![load(R1, R0)], vec![end()]]);
@@ -126,29 +154,29 @@ fn row_0_done() {
 
 #[test]
 fn row_1_image_size() {
-    assert_image_refused(&[], 1);
-    assert_image_refused(&[0; 5], 1);
-    assert_image_refused(&[0; 8327], 1);
+    assert_image_refused(&[], refusal::IMAGE_SIZE);
+    assert_image_refused(&[0; 5], refusal::IMAGE_SIZE);
+    assert_image_refused(&[0; 8327], refusal::IMAGE_SIZE);
 }
 
 #[test]
 fn row_2_header() {
-    assert_image_refused(&changed(|image| image[0] = 65), 2);
-    assert_image_refused(&changed(|image| image[1] = 1), 2);
-    assert_image_refused(&changed(|image| image[2] = 3), 2);
-    assert_image_refused(&changed(|image| image[3] = 1), 2);
-    assert_image_refused(&[65, 0, 0, 0, 0, 0], 2);
+    assert_image_refused(&changed(|image| image[0] = 65), refusal::HEADER);
+    assert_image_refused(&changed(|image| image[1] = 1), refusal::HEADER);
+    assert_image_refused(&changed(|image| image[2] = 3), refusal::HEADER);
+    assert_image_refused(&changed(|image| image[3] = 1), refusal::HEADER);
+    assert_image_refused(&[65, 0, 0, 0, 0, 0], refusal::HEADER);
 }
 
 #[test]
 fn row_3_offsets() {
-    assert_image_refused(&[1, 0, 0, 0, 8, 0], 3);
-    assert_image_refused(&changed(|image| image[4] += 4), 3);
-    assert_image_refused(&changed(|image| image[6] = 8), 3);
-    assert_image_refused(&changed(|image| image[6] += 1), 3);
-    assert_image_refused(&changed(|image| image[8] += 4), 3);
-    assert_image_refused(&changed(|image| image.push(0)), 3);
-    assert_image_refused(&image(0, &[vec![end(); 33]]), 3);
+    assert_image_refused(&[1, 0, 0, 0, 8, 0], refusal::OFFSETS);
+    assert_image_refused(&changed(|image| image[4] += 4), refusal::OFFSETS);
+    assert_image_refused(&changed(|image| image[6] = 8), refusal::OFFSETS);
+    assert_image_refused(&changed(|image| image[6] += 1), refusal::OFFSETS);
+    assert_image_refused(&changed(|image| image[8] += 4), refusal::OFFSETS);
+    assert_image_refused(&changed(|image| image.push(0)), refusal::OFFSETS);
+    assert_image_refused(&image(0, &[vec![end(); 33]]), refusal::OFFSETS);
 }
 
 #[test]
@@ -172,7 +200,7 @@ fn row_4_instructions() {
         [8, 0, 0, 1],
     ];
     for instruction in bad {
-        assert_image_refused(&image(0, &[vec![], vec![end(), instruction]]), 4);
+        assert_image_refused(&image(0, &[vec![], vec![end(), instruction]]), refusal::INSTRUCTION);
     }
 }
 
@@ -180,14 +208,14 @@ fn row_4_instructions() {
 fn row_5_table_size() {
     for cells in [0, 257] {
         let lent = Lent { table: vec![0; cells], area: vec![0; words(cells, 2)], ..Lent::opened() };
-        lent.assert_all_refuse(5);
+        lent.assert_all_refuse(refusal::TABLE_SIZE);
     }
 }
 
 #[test]
 fn row_6_area_size() {
     for words in [0, words(CELLS, 2) - 1, words(CELLS, 2) + 1] {
-        Lent { area: vec![0; words], ..Lent::opened() }.assert_all_refuse(6);
+        Lent { area: vec![0; words], ..Lent::opened() }.assert_all_refuse(refusal::AREA_SIZE);
     }
 }
 
@@ -203,7 +231,7 @@ fn row_7_area() {
     let bad: [&dyn Fn(&mut [u32]); 7] = [
         &|area| area[0] = 3,
         &|area| area[2 * CELLS - 1] = 3,
-        &|area| area[slot] = 6,
+        &|area| area[slot + STATE] = 6,
         &|area| area[slot + READ_COUNT] = 33,
         &|area| area[slot + STORE_COUNT] = 33,
         &counted_cell(READ_COUNT, READS),
@@ -212,10 +240,10 @@ fn row_7_area() {
     for spoil in bad {
         let mut lent = Lent::opened();
         spoil(&mut lent.area);
-        lent.assert_all_but_opening_refuse(7);
+        lent.assert_all_but_opening_refuse(refusal::AREA);
         let mut lent = Lent::opened();
         spoil(&mut lent.area);
-        assert_eq!(lent.open(), 0);
+        assert_eq!(lent.open(), DONE);
     }
 }
 
@@ -224,52 +252,52 @@ fn row_7_looks_at_nothing_else() {
     let mut lent = Lent::opened();
     let slot = words(CELLS, 1);
     lent.area[..2 * CELLS].fill(2);
-    lent.area[slot + 1] = u32::MAX;
+    lent.area[slot + DETAIL] = u32::MAX;
     lent.area[slot + READS..slot + SLOT_WORDS].fill(u32::MAX);
-    assert_eq!(lent.gather(1), 0);
+    assert_eq!(lent.gather(1), DONE);
 }
 
 #[test]
 fn row_8_number() {
     for number in [2, usize::MAX] {
-        assert_eq!(program_refusal(&two_programs(), number), 8);
-        assert_eq!(Lent::opened().gather(number), 8);
-        assert_eq!(Lent::opened().settle(number), 8);
+        assert_eq!(program_refusal(&two_programs(), number), refusal::NUMBER);
+        assert_eq!(Lent::opened().gather(number), refusal::NUMBER);
+        assert_eq!(Lent::opened().settle(number), refusal::NUMBER);
     }
 }
 
 #[test]
 fn row_9_states() {
     for state in GATHERED..=CARRIED {
-        assert_eq!(Lent::in_states([state, 0]).gather(0), 9);
-        assert_eq!(Lent::in_states([state, 0]).settle(0), 9);
-        assert_eq!(Lent::in_states([state, GATHERED]).settle(1), 0);
+        assert_eq!(Lent::in_states([state, WAITING]).gather(0), refusal::STATE);
+        assert_eq!(Lent::in_states([state, WAITING]).settle(0), refusal::STATE);
+        assert_eq!(Lent::in_states([state, GATHERED]).settle(1), DONE);
     }
     for state in GATHERED + 1..=CARRIED {
-        assert_eq!(Lent::in_states([state, GATHERED]).settle(0), 9);
+        assert_eq!(Lent::in_states([state, GATHERED]).settle(0), refusal::STATE);
     }
-    for state in [0, GATHERED] {
-        assert_eq!(Lent::in_states([COMMITTED, state]).order(), 9);
-        assert_eq!(Lent::in_states([COMMITTED, state]).next_image(), 9);
+    for state in [WAITING, GATHERED] {
+        assert_eq!(Lent::in_states([COMMITTED, state]).order(), refusal::STATE);
+        assert_eq!(Lent::in_states([COMMITTED, state]).next_image(), refusal::STATE);
     }
 }
 
 #[test]
 fn row_10_too_short() {
     let settled = || Lent::in_states([COMMITTED, CARRIED]);
-    assert_eq!(Lent { list: vec![9; 1], ..settled() }.order(), 10);
-    assert_eq!(Lent { list: vec![9; 2], ..settled() }.order(), 0);
+    assert_eq!(Lent { list: vec![9; 1], ..settled() }.order(), refusal::TOO_SHORT);
+    assert_eq!(Lent { list: vec![9; 2], ..settled() }.order(), DONE);
     let next = 2 * 2 + 6 + 8;
-    assert_eq!(Lent { out: vec![9; next - 1], ..settled() }.next_image(), 10);
-    assert_eq!(Lent { out: vec![9; next], ..settled() }.next_image(), 0);
+    assert_eq!(Lent { out: vec![9; next - 1], ..settled() }.next_image(), refusal::TOO_SHORT);
+    assert_eq!(Lent { out: vec![9; next], ..settled() }.next_image(), DONE);
 }
 
 #[test]
 fn row_11_too_many() {
     let fresh = |programs: usize| image(0, &vec![vec![]; programs]);
     let settled = |programs: usize| Lent { fresh: fresh(programs), ..Lent::in_states([CARRIED, CARRIED]) };
-    assert_eq!(Lent { out: vec![], ..settled(63) }.next_image(), 11);
-    assert_eq!(Lent { out: vec![9; 8326], ..settled(62) }.next_image(), 0);
+    assert_eq!(Lent { out: vec![], ..settled(63) }.next_image(), refusal::TOO_MANY);
+    assert_eq!(Lent { out: vec![9; 8326], ..settled(62) }.next_image(), DONE);
 }
 
 #[test]
@@ -281,19 +309,19 @@ fn row_12_no_order() {
         *knot.slot_word(number, READS) = number as u32;
         *knot.slot_word(number, STORES) = 1 - number as u32;
     }
-    assert_eq!(knot.order(), 12);
+    assert_eq!(knot.order(), refusal::NO_ORDER);
     knot.list.pop();
-    assert_eq!(knot.order(), 10);
+    assert_eq!(knot.order(), refusal::TOO_SHORT);
 }
 
 #[test]
 fn the_first_row_that_holds_decides() {
-    assert_image_refused(&changed(|image| (image[2], image[4]) = (3, 0)), 2);
-    assert_image_refused(&changed(|image| (image[4], image[10]) = (0, 9)), 3);
+    assert_image_refused(&changed(|image| (image[2], image[4]) = (3, 0)), refusal::HEADER);
+    assert_image_refused(&changed(|image| (image[4], image[10]) = (0, 9)), refusal::OFFSETS);
     let mut lent = Lent { area: vec![9; 1], table: vec![], ..Lent::opened() };
-    assert_eq!(lent.gather(9), 5);
-    let mut lent = Lent { list: vec![], ..Lent::in_states([COMMITTED, 0]) };
-    assert_eq!(lent.order(), 9);
-    let mut lent = Lent { fresh: vec![], ..Lent::in_states([COMMITTED, 0]) };
-    assert_eq!(lent.next_image(), 9);
+    assert_eq!(lent.gather(9), refusal::TABLE_SIZE);
+    let mut lent = Lent { list: vec![], ..Lent::in_states([COMMITTED, WAITING]) };
+    assert_eq!(lent.order(), refusal::STATE);
+    let mut lent = Lent { fresh: vec![], ..Lent::in_states([COMMITTED, WAITING]) };
+    assert_eq!(lent.next_image(), refusal::STATE);
 }
