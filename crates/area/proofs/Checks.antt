@@ -28,7 +28,7 @@ use Rattle.area.specs.declared.MarkKind.{MarkKind}
 use Rattle.area.specs.declared.MarkKind.the-variants.{Write, Read}
 use Rattle.area.specs.Layout.{areaWords, marksAt, slotStart, stateOf, countAt, listAt, slotAt, listOf}
 use Rattle.area.specs.Checks.{tableGood, sizeIs, allBelow, marksGood, stateGood, listGood, slotGood, slotsGood, wordsGood}
-use Rattle.area.specs.Checks.{roomRefusal, openRefusal, callRefusal, Checked, Measured, Lies, Slotted}
+use Rattle.area.specs.Checks.{roomRefusal, openRefusal, callRefusal, Checked, Measured, HasSlot, Slotted}
 use Rattle.area.proofs.Views.{each-mark, slot-word, state-in-slot, count-in-slot}
 
 -- ---- checks 1 to 6, and 1 to 7
@@ -155,7 +155,7 @@ module _ (T k : ℕ) (a : List ℕ) where
     unfolding listOf
     list-below l c h = let w = words-has (listAt l T k) (getD a (countAt l T k) 0) a c h in omega (arith, list-in l (w .0) (w .1), w .2)
 
-    pub slotted : Lies T k a → Slotted T k a
+    pub slotted : HasSlot T k a → Slotted T k a
     slotted lies = record { lies = lies; few = count-few; inside = list-in }
 
 -- a slot that holds a log which fits passes
@@ -199,7 +199,7 @@ room-measured image t a e n q =
     let r = open-shows image t a e in
     record { cells-few = r .cells-few; programs-few = omega (arith, few image (r .accepted)); sized = rw q (r .sized) }
 
-pub measured-lies : (T n : ℕ) (a : List ℕ) → Measured T n a → (k : ℕ) → k < n → Lies T k a
+pub measured-lies : (T n : ℕ) (a : List ℕ) → Measured T n a → (k : ℕ) → k < n → HasSlot T k a
 measured-lies T n a m k l =
     record { cells-few = m .cells-few; number-few = omega (arith, m .programs-few); lies = omega (arith, m .sized) }
 
@@ -210,7 +210,7 @@ module _ (image t a : List ℕ) (c : Checked image t a) where
   pub checked-passed : Passed (length t) (countOf image) a
   checked-passed = good-passed (length t) (countOf image) a (c .good)
 
-  pub program-lies : (k : ℕ) → k < countOf image → Lies (length t) k a
+  pub program-lies : (k : ℕ) → k < countOf image → HasSlot (length t) k a
   program-lies k l = measured-lies (length t) (countOf image) a (measured (countOf image) refl) k l
 
   pub program-slotted : (k : ℕ) → k < countOf image → Slotted (length t) k a

@@ -15,7 +15,7 @@ use Rattle.area.specs.declared.MarkKind.{MarkKind}
 use Rattle.area.specs.declared.Span.{Span}
 use Rattle.area.specs.Layout.{marksAt, slotStart, countAt, listAt, valuesAt, spanOf, listOf, valuesOf}
 use Rattle.area.specs.Marks.{storedBy, committed}
-use Rattle.area.specs.Checks.{allBelow, listGood, Lies, Slotted, Names, Storing}
+use Rattle.area.specs.Checks.{allBelow, listGood, HasSlot, Slotted, Names, Storing}
 use Rattle.area.proofs.Views.{marks-low}
 
 module _ (T k : ℕ) (a : List ℕ) (l : ListKind) (s : Span) (e : s ≡ spanOf l T k a) where
@@ -43,7 +43,7 @@ module _ (T k : ℕ) (a : List ℕ) (l : ListKind) (s : Span) (e : s ≡ spanOf 
   unfolding listGood
   list-short h b q = let g : getD a (countAt l T k) 0 ≤ listWords = rw e at h in q ∙ rw (e, le-leb _ _ g)
 
-  pub list-there : Lies T k a → s .count ≤ listWords → s .at + s .count ≤ length a
+  pub list-there : HasSlot T k a → s .count ≤ listWords → s .at + s .count ≤ length a
   list-there r h =
       subst (λ (x : Span). x .count ≤ listWords → x .at + x .count ≤ length a) (sym e)
       (λ g. omega (arith, r .lies, list-lies l .1)) h

@@ -97,14 +97,14 @@ pub record Measured (T n : ℕ) (a : List ℕ) : Type 0 where
   pub sized : length a ≡ areaWords T n
 
 -- program k's slot lies in the area
-pub record Lies (T k : ℕ) (a : List ℕ) : Type 0 where
+pub record HasSlot (T k : ℕ) (a : List ℕ) : Type 0 where
   pub cells-few : T ≤ maxCells
   pub number-few : k < maxPrograms
   pub lies : slotStart T k + slotWords ≤ length a
 
 -- and its cells are the table's
 pub record Slotted (T k : ℕ) (a : List ℕ) : Type 0 where
-  pub lies : Lies T k a
+  pub lies : HasSlot T k a
   pub few : (l : ListKind) → getD a (countAt l T k) 0 ≤ listWords
   pub inside : (l : ListKind) (i : ℕ) → i < getD a (countAt l T k) 0 → getD a (listAt l T k + i) 0 < T
 

@@ -9,7 +9,7 @@ ghost use Rattle.image.specs.Limits.{maxPrograms, maxCells};
 ghost use Rattle.area.specs.Layout.{areaWords, marksAt, slotStart, spanOf, listOf, stateOf, inGroup, withState};
 ghost use Rattle.area.specs.Marks.{lower, reserve, earlier, hit, depends, storedBy, committed};
 ghost use Rattle.area.specs.Checks.{tableGood, allBelow, listGood, slotGood, slotsGood, wordsGood, statesFrom};
-ghost use Rattle.area.specs.Checks.{roomRefusal, openRefusal, callRefusal, endedRefusal, Measured, Lies, Slotted, Names, Storing};
+ghost use Rattle.area.specs.Checks.{roomRefusal, openRefusal, callRefusal, endedRefusal, Measured, HasSlot, Slotted, Names, Storing};
 
 // The kinds of marks: who stores a cell, and who reads it.
 pub enum MarkKind {
@@ -50,7 +50,7 @@ pub struct Span {
 
 // Where a program's list of a kind lies, and how many cells it counts.
 pub fn span_of(area: &[u32], cells: usize, number: usize, list: slot::ListKind) -> Span
-    requires { ⌜ Lies cells number (now area) ⌝ }
+    requires { ⌜ HasSlot cells number (now area) ⌝ }
     ensures { λ r. ⌜ r ≡ spanOf list cells number (now (area .entry)) ⌝ }
 {
     let start = slot_start(cells, number);
@@ -162,7 +162,7 @@ pub fn commit(table: &mut [u32], area: &[u32], number: usize)
 
 // The program's state and detail are these.
 pub fn write_state(area: &mut [u32], cells: usize, number: usize, state: u32, detail: u32)
-    requires { ⌜ Lies cells number (now area) ⌝ }
+    requires { ⌜ HasSlot cells number (now area) ⌝ }
     ensures { λ _. ⌜ now (area .exit) ≡ withState cells number state detail (now (area .entry)) ⌝ }
 {
     let at = slot_start(cells, number);
@@ -172,7 +172,7 @@ pub fn write_state(area: &mut [u32], cells: usize, number: usize, state: u32, de
 
 // The program's state.
 pub fn state(area: &[u32], cells: usize, number: usize) -> u32
-    requires { ⌜ Lies cells number (now area) ⌝ }
+    requires { ⌜ HasSlot cells number (now area) ⌝ }
     ensures { λ r. ⌜ r ≡ stateOf cells number (now (area .entry)) ⌝ }
 {
     let at = slot_start(cells, number);
@@ -241,7 +241,7 @@ fn all_below(area: &[u32], bound: usize, at: usize, count: usize) -> bool
 
 // Check 7 of a list of slot k: its count, and the cells that it counts.
 fn list_good(area: &[u32], cells: usize, k: usize, list: slot::ListKind) -> bool
-    requires { ⌜ Lies cells k (now area) ⌝ }
+    requires { ⌜ HasSlot cells k (now area) ⌝ }
     ensures { λ r. ⌜ r ≡ listGood list cells k (now (area .entry)) ⌝ }
 {
     let s = span_of(area, cells, k, list);
@@ -253,7 +253,7 @@ fn list_good(area: &[u32], cells: usize, k: usize, list: slot::ListKind) -> bool
 
 // Check 7 of slot k.
 fn slot_good(area: &[u32], cells: usize, k: usize) -> bool
-    requires { ⌜ Lies cells k (now area) ⌝ }
+    requires { ⌜ HasSlot cells k (now area) ⌝ }
     ensures { λ r. ⌜ r ≡ slotGood cells k (now (area .entry)) ⌝ }
 {
     if slot::LAST_STATE < state(area, cells, k) {

@@ -4,7 +4,7 @@ use mathlib.Core.List.{List, [], _∷_, _++_}
 use Prim.Native.Nat.{ℕ}
 use lib.ListN.{length, replicate}
 use Rattle.image.specs.Limits.{maxPrograms}
-use Rattle.image.specs.Refusals.{badHeader, badInstruction, wrongState, noRoom, tooMany, ofFresh, refusing}
+use Rattle.image.specs.Refusals.{refusing}
 use Rattle.image.specs.Assembler.{program, image, set, store, reject, instruction}
 use Rattle.slot.specs.States.{gathered, rejected, committed, carried}
 use Rattle.slot.specs.Log.{empty, layout}
@@ -60,24 +60,24 @@ unfolding opened
 nothing = (refl, refl)
 
 -- the checks go 9, 21 to 24, 11, 10; on a refusal the output is untouched
-not-settled : Answers (gathered ∷ carried ∷ carried ∷ []) (image 3 []) [] (Refused (refusing wrongState)) []
+not-settled : Answers (gathered ∷ carried ∷ carried ∷ []) (image 3 []) [] (Refused (refusing 9)) []
 unfolding opened
 not-settled = (refl, refl)
 
-bad-fresh : Answers (committed ∷ carried ∷ carried ∷ []) (image 3 []) [] (Refused (refusing (ofFresh badHeader))) []
+bad-fresh : Answers (committed ∷ carried ∷ carried ∷ []) (image 3 []) [] (Refused (refusing 22)) []
 unfolding opened
 bad-fresh = (refl, refl)
 
-bad-fresh-program : Answers (committed ∷ carried ∷ carried ∷ []) (image 1 (program (instruction 9 0 0 0 ∷ []) ∷ [])) [] (Refused (refusing (ofFresh badInstruction))) []
+bad-fresh-program : Answers (committed ∷ carried ∷ carried ∷ []) (image 1 (program (instruction 9 0 0 0 ∷ []) ∷ [])) [] (Refused (refusing 24)) []
 unfolding opened
 bad-fresh-program = (refl, refl)
 
 -- with one carried, a full fresh image is one too many
-too-many : Answers (committed ∷ committed ∷ carried ∷ []) (image 1 (replicate maxPrograms [])) [] (Refused (refusing tooMany)) []
+too-many : Answers (committed ∷ committed ∷ carried ∷ []) (image 1 (replicate maxPrograms [])) [] (Refused (refusing 11)) []
 unfolding opened
 too-many = (refl, refl)
 
 -- the output is one byte short
-too-long : Answers (committed ∷ carried ∷ carried ∷ []) (image 1 (four ∷ [])) (replicate 27 9) (Refused (refusing noRoom)) (replicate 27 9)
+too-long : Answers (committed ∷ carried ∷ carried ∷ []) (image 1 (four ∷ [])) (replicate 27 9) (Refused (refusing 10)) (replicate 27 9)
 unfolding opened
 too-long = (refl, refl)

@@ -50,7 +50,7 @@ small-rule image good =
 
 -- ---- the next image
 
-module _ (image t a fresh out : List ℕ) (none : nextRefusal image t a fresh out ≡ 0) where
+module _ (image t a fresh out : List ℕ) (none : nextRefusal image t a fresh out .number ≡ 0) where
   shown : NextShows image t a fresh out
   shown = next-shows image t a fresh out none
 
@@ -78,7 +78,7 @@ module _ (image t a fresh out : List ℕ) (none : nextRefusal image t a fresh ou
       (picked-fine (λ k. true) fresh (accepted fresh (shown .good-fresh)) (countOf fresh) (omega arith))
 
   -- it is itself a good image
-  pub next-good : refusalOf (nextImage (length t) image a fresh) ≡ 0
+  pub next-good : refusalOf (nextImage (length t) image a fresh) .number ≡ 0
   unfolding nextImage
   next-good = image-good (ruleByte fresh) programs few fine (small-rule fresh (accepted fresh (shown .good-fresh)))
 

@@ -1,5 +1,5 @@
 -- The call for the next image, once its programs are counted: what the writing takes, and what the call answers and leaves. Assumes nothing.
-use mathlib.Core.Path.{_≡_, sym, ap, _∙_, subst}
+use mathlib.Core.Path.{_≡_, refl, sym, ap, _∙_, subst}
 use mathlib.Core.List.{List}
 use Prim.Native.Nat.{ℕ, _+_, _≤_}
 use native.Mathlib.Omega.{arith}
@@ -7,17 +7,19 @@ use lib.ListN.{length}
 use Rattle.base.specs.Words.{count}
 use Rattle.base.specs.Masks.{hasBit, maskOf}
 use Rattle.base.proofs.Counts.{count-le}
+use Rattle.image.specs.declared.Refusal.{Refusal}
 use Rattle.image.specs.Image.{countOf}
+use Rattle.image.proofs.Refusing.{first-passes, number-of}
 use Rattle.writer.specs.Writing.{Wrote}
 use Rattle.writer.proofs.Programs.{good-source}
 use Rattle.carry.specs.declared.Next.the-variants.{Length}
 use Rattle.carry.specs.Next.{isCarried, carriedCount, nextImage, lentRefusal, sizeRefusal, nextRefusal, NextSays}
 use Rattle.carry.specs.Sources.{Sources, imageFrom}
 use Rattle.carry.proofs.Sources.{carried-counted, from-is}
-use Rattle.carry.proofs.Checks.{lent-shows, size-shows, next-size, next-done}
+use Rattle.carry.proofs.Checks.{lent-shows, size-shows, next-done}
 
 pub record Taken (image t a fresh : List ℕ) (n m mask programs : ℕ) : Type 0 where
-  pub lent : lentRefusal image t a fresh ≡ 0
+  pub lent : lentRefusal image t a fresh .number ≡ 0
   pub n-is : n ≡ countOf image
   pub m-is : m ≡ countOf fresh
   pub mask-is : mask ≡ maskOf (isCarried (length t) a) n
@@ -35,18 +37,18 @@ module _ {image t a fresh : List ℕ} {n m mask programs : ℕ} (k : Taken image
   image-is = from-is (length t) a image (k .n-is) (k .mask-is) fresh m (k .m-is)
 
   -- r is what the checks 11 and 10 answer
-  module _ (out : List ℕ) {r : ℕ} (says : r ≡ sizeRefusal programs (imageFrom image n mask fresh m) out) where
+  module _ (out : List ℕ) {r : Refusal} (says : r ≡ sizeRefusal programs (imageFrom image n mask fresh m) out) where
     pub taken-size : r ≡ nextRefusal image t a fresh out
+    unfolding nextRefusal
     taken-size =
         let many : programs ≡ carriedCount (length t) (countOf image) a + countOf fresh =
         omega (arith, k .counted, k .m-is, carried-counted (length t) a image (k .n-is) (k .mask-is)) in
-        says ∙ ap (λ (i : List ℕ). sizeRefusal programs i out) image-is ∙ ap (λ (c : ℕ). sizeRefusal c (nextImage (length t) image a fresh) out) many
-        ∙ next-size image t a fresh out (k .lent)
+        first-passes refl (k .lent)
+        (says ∙ ap (λ (i : List ℕ). sizeRefusal programs i out) image-is ∙ ap (λ (c : ℕ). sizeRefusal c (nextImage (length t) image a fresh) out) many)
 
-    module _ (none : r ≡ 0) where
+    module _ (none : r .number ≡ 0) where
       pub taken-fits : length (imageFrom image n mask fresh m) ≤ length out
-      taken-fits = size-shows programs (imageFrom image n mask fresh m) out (sym says ∙ none) .1
+      taken-fits = size-shows programs (imageFrom image n mask fresh m) out (number-of (sym says) ∙ none) .1
 
       pub taken-done : {s : ℕ} {out′ : List ℕ} → Wrote out 0 (imageFrom image n mask fresh m) out′ s → NextSays image t a fresh out (Length s) out′
-      taken-done {s} {out′} w =
-          next-done image t a fresh out (sym taken-size ∙ none) (subst (λ (i : List ℕ). Wrote out 0 i out′ s) image-is w)
+      taken-done {s} {out′} w = next-done image t a fresh out r taken-size none (subst (λ (i : List ℕ). Wrote out 0 i out′ s) image-is w)

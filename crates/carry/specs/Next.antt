@@ -1,26 +1,28 @@
 -- Document 01, "Next image": "the carried programs in number order, then the fresh image's programs, with the fresh image's rule byte." And what the
 -- call answers and leaves. Assumes nothing.
 use mathlib.Core.Path.{_≡_}
-use mathlib.Core.Bool.{Bool, cond}
+use mathlib.Core.Bool.{Bool}
 use mathlib.Core.List.{List, _++_}
 use Prim.Native.Nat.{ℕ, _+_}
-use lib.Dec.{eqb, leb}
+use lib.Dec.{leb}
 use lib.ListN.{length, drop}
-use Rattle.base.specs.Words.{count, unless}
+use Rattle.base.specs.Words.{count}
 use Rattle.image.specs.Limits.{maxPrograms}
-use Rattle.image.specs.Refusals.{wrongState, noRoom, tooMany, ofFresh, refusing, Counted, noCount, counted}
-use Rattle.image.specs.Image.{countOf, ruleByte, refusalOf}
-use Rattle.slot.specs.States.{carried}
-use Rattle.area.specs.Layout.{stateOf}
-use Rattle.area.specs.Checks.{callRefusal, allEnded}
+use Rattle.image.specs.declared.Refusal.{Refusal}
+use Rattle.image.specs.Refusals as refusal
+use Rattle.image.specs.Refusals.{check, after, unless, Counted, noCount, counted}
+use Rattle.image.specs.Image.{countOf, ruleByte, freshRefusalOf}
+use Rattle.slot.specs.declared.Group.the-variants.{Carried}
+use Rattle.area.specs.Layout.{inGroup}
+use Rattle.area.specs.Checks.{endedRefusal}
 use Rattle.carry.specs.declared.Next.{Next}
 use Rattle.carry.specs.declared.Next.the-variants.{Refused, Length}
 use Rattle.writer.specs.Joined.{imageOf}
 use Rattle.writer.specs.Picked.{picked, allOf}
 
 -- program k is carried; how many are
-unfoldable pub isCarried : ℕ → List ℕ → ℕ → Bool
-isCarried T a k = eqb (stateOf T k a) carried
+abbrev pub isCarried : ℕ → List ℕ → ℕ → Bool
+isCarried = inGroup Carried
 
 unfoldable pub carriedCount : ℕ → ℕ → List ℕ → ℕ
 carriedCount T n a = count (isCarried T a) n
@@ -35,23 +37,24 @@ unfoldable pub nextImage : ℕ → List ℕ → List ℕ → List ℕ → List �
 nextImage T image a fresh = imageOf (ruleByte fresh) (nextPrograms T image a fresh)
 
 -- "Checks go .. for the next image: 1 to 7, 9, 21 to 24, 11, 10." First what is lent,
-unfoldable pub lentRefusal : List ℕ → List ℕ → List ℕ → List ℕ → ℕ
-lentRefusal image t a fresh =
-    unless (callRefusal image t a) (λ r. r)
-    (cond (allEnded (length t) (countOf image) a) (unless (refusalOf fresh) ofFresh 0) wrongState)
+unfoldable pub lentRefusal : List ℕ → List ℕ → List ℕ → List ℕ → Refusal
+lentRefusal image t a fresh = after (endedRefusal image t a) (freshRefusalOf fresh)
 
 -- then how large the next image is: 11, "carried plus fresh over 64"; 10, "output shorter than the next image"
-unfoldable pub sizeRefusal : ℕ → List ℕ → List ℕ → ℕ
-sizeRefusal programs next out = cond (leb programs maxPrograms) (cond (leb (length next) (length out)) 0 noRoom) tooMany
+unfoldable pub sizeRefusal : ℕ → List ℕ → List ℕ → Refusal
+sizeRefusal programs next out =
+    check (leb programs maxPrograms) refusal.tooMany
+    (check (leb (length next) (length out)) refusal.tooShort
+    refusal.none)
 
-unfoldable pub nextRefusal : List ℕ → List ℕ → List ℕ → List ℕ → List ℕ → ℕ
+unfoldable pub nextRefusal : List ℕ → List ℕ → List ℕ → List ℕ → List ℕ → Refusal
 nextRefusal image t a fresh out =
-    unless (lentRefusal image t a fresh) (λ r. r)
+    after (lentRefusal image t a fresh)
     (sizeRefusal (carriedCount (length t) (countOf image) a + countOf fresh) (nextImage (length t) image a fresh) out)
 
 unfoldable pub nextAnswer : List ℕ → List ℕ → List ℕ → List ℕ → List ℕ → Next
 nextAnswer image t a fresh out =
-    unless (nextRefusal image t a fresh out) (λ r. Refused (refusing r)) (Length (length (nextImage (length t) image a fresh)))
+    unless (nextRefusal image t a fresh out) Refused (Length (length (nextImage (length t) image a fresh)))
 
 -- "the output beyond the image .. untouched"
 unfoldable pub nextOut : List ℕ → List ℕ → List ℕ → List ℕ → List ℕ → List ℕ
@@ -61,7 +64,7 @@ nextOut image t a fresh out =
 
 -- the numbers of an answer
 abbrev pub numbersOfNext : Next → Counted
-numbersOfNext (Refused r) = noCount (r .number)
+numbersOfNext (Refused r) = noCount r
 numbersOfNext (Length k) = counted k
 
 -- The contract of the call.

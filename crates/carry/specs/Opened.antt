@@ -2,8 +2,8 @@
 use Rattle.base.specs.Words.{count}
 use Rattle.area.specs.Opened as area
 use Rattle.writer.specs.Opened as writer
-use Rattle.carry.specs.Next.{isCarried, carriedCount, nextPrograms, nextImage, lentRefusal, sizeRefusal, nextRefusal, nextAnswer, nextOut}
+use Rattle.carry.specs.Next.{carriedCount, nextPrograms, nextImage, lentRefusal, sizeRefusal, nextRefusal, nextAnswer, nextOut}
 
 unfoldable pub opened : Unit {0}
-unfolding count area.opened writer.opened isCarried carriedCount nextPrograms nextImage lentRefusal sizeRefusal nextRefusal nextAnswer nextOut
+unfolding count area.opened writer.opened carriedCount nextPrograms nextImage lentRefusal sizeRefusal nextRefusal nextAnswer nextOut
 opened = tt

@@ -1,50 +1,15 @@
 // The next image: document 01, "Next image". The carried programs in number order, then the fresh image's programs, with the fresh image's rule byte.
 ghost use mathlib.Core.Path.{_≡_};
-ghost use mathlib.Core.Bool.{cond};
-ghost use Prim.Native.Nat.{_+_, _^_, _<_, _≤_};
+ghost use Prim.Native.Nat.{_≤_};
 ghost use lib.ListN.{length};
-ghost use Rattle.base.specs.Masks.{maskOf};
-ghost use Rattle.image.specs.Limits.{maxPrograms, maxCells};
-ghost use Rattle.area.specs.Layout.{areaWords};
 ghost use Rattle.writer.specs.Writing.{Wrote};
-ghost use Rattle.carry.specs.Next.{isCarried, lentRefusal, sizeRefusal, NextSays};
+ghost use Rattle.carry.specs.Next.{lentRefusal, sizeRefusal, NextSays};
 ghost use Rattle.carry.specs.Sources.{Sources, imageFrom};
 
 // What the next image answers.
 pub enum Next {
     Refused(image::Refusal),
     Length(usize),
-}
-
-// Whether program i is carried.
-fn is_carried(area: &[u32], cells: usize, i: usize) -> bool
-    requires { ⌜ (cells ≤ maxCells) × (i < maxPrograms) × (areaWords cells (i + 1) ≤ length (now area)) ⌝ }
-    ensures { λ r. ⌜ r ≡ isCarried cells (now (area .entry)) i ⌝ }
-{
-    area::state(area, cells, i) == slot::CARRIED
-}
-
-// The mask with bit j set or left.
-fn with_bit(mask: u64, j: usize, set: bool) -> u64
-    requires { ⌜ (j < maxPrograms) × (mask < 2 ^ j) ⌝ }
-    ensures { λ r. ⌜ r ≡ mask + cond set (2 ^ j) 0 ⌝ }
-{
-    if set {
-        return mask | 1 << j;
-    }
-    mask
-}
-
-// The carried programs, a bit each.
-fn carried_mask(area: &[u32], cells: usize, n: usize) -> u64
-    requires { ⌜ (cells ≤ maxCells) × (n ≤ maxPrograms) × (areaWords cells n ≤ length (now area)) ⌝ }
-    ensures { λ r. ⌜ r ≡ maskOf (isCarried cells (now (area .entry))) n ⌝ }
-{
-    let mut mask: u64 = 0;
-    for i in 0..n {
-        mask = with_bit(mask, i, is_carried(area, cells, i));
-    }
-    mask
 }
 
 // The next image's length, for check 10.
@@ -83,21 +48,14 @@ pub fn write_next(
 }
 
 // Checks 1 to 7, 9, 21 to 24.
-fn lent_refusal(image: &[u8], table: &[u32], area: &[u32], fresh: &[u8]) -> u32
+fn lent_refusal(image: &[u8], table: &[u32], area: &[u32], fresh: &[u8]) -> image::Refusal
     ensures { λ r. ⌜ r ≡ lentRefusal (now (image .entry)) (now (table .entry)) (now (area .entry)) (now (fresh .entry)) ⌝ }
 {
-    let refused = area::call_refusal(image, table, area);
-    if refused != 0 {
+    let refused = area::ended_refusal(image, table, area);
+    if refused.number != 0 {
         return refused;
     }
-    if !area::all_ended(area, table.len(), image::count(image)) {
-        return image::Refusal::WRONG_STATE;
-    }
-    let fresh_refused = image::image_refusal(fresh);
-    if fresh_refused != 0 {
-        return image::Refusal::OF_FRESH + fresh_refused;
-    }
-    0
+    image::fresh_refusal(fresh)
 }
 
 // Checks 11, 10.
@@ -109,7 +67,7 @@ fn size_refusal(
     m: usize,
     programs: usize,
     out: &[u8],
-) -> u32
+) -> image::Refusal
     requires { ⌜ Sources (now image) n mask (now fresh) m programs ⌝ }
     ensures { λ r. ⌜ r ≡ sizeRefusal programs (imageFrom (now (image .entry)) n mask (now (fresh .entry)) m) (now (out .entry)) ⌝ }
 {
@@ -117,9 +75,9 @@ fn size_refusal(
         return image::Refusal::TOO_MANY;
     }
     if out.len() < next_length(image, n, mask, fresh, m, programs) {
-        return image::Refusal::NO_ROOM;
+        return image::Refusal::TOO_SHORT;
     }
-    0
+    image::Refusal::NONE
 }
 
 // The next image: its length, and its bytes at the front of the output.
@@ -127,16 +85,16 @@ pub fn next_image(image: &[u8], table: &[u32], area: &[u32], fresh: &[u8], out: 
     ensures { λ r. ⌜ NextSays (now (image .entry)) (now (table .entry)) (now (area .entry)) (now (fresh .entry)) (now (out .entry)) r (now (out .exit)) ⌝ }
 {
     let refused = lent_refusal(image, table, area, fresh);
-    if refused != 0 {
-        return Next::Refused(image::Refusal { number: refused });
+    if refused.number != 0 {
+        return Next::Refused(refused);
     }
     let n = image::count(image);
     let m = image::count(fresh);
-    let mask = carried_mask(area, table.len(), n);
+    let mask = area::members(area, table.len(), n, slot::Group::Carried);
     let programs = writer::taken_count(n, mask) + m;
     let large = size_refusal(image, n, mask, fresh, m, programs, out);
-    if large != 0 {
-        return Next::Refused(image::Refusal { number: large });
+    if large.number != 0 {
+        return Next::Refused(large);
     }
     Next::Length(write_next(image, n, mask, fresh, m, programs, out))
 }

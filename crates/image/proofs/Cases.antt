@@ -6,7 +6,8 @@ use mathlib.Core.Path.{_≡_, refl}
 use mathlib.Core.List.{List, [], _∷_, _++_, map}
 use lib.ListN.{length, take, replicate}
 use Rattle.image.specs.Limits.{maxPrograms, maxInstructions, registers, minCells, maxCells, instructionBytes, maxProgramBytes, headBytes, minBytes, maxBytes}
-use Rattle.image.specs.Refusals.{badSize, badHeader, badOffsets, badInstruction, badTable, badAreaSize, badArea, noSuchProgram, wrongState, noRoom, tooMany, noOrder, ofFresh}
+use Rattle.image.specs.declared.Refusal.{Refusal}
+use Rattle.image.specs.Refusals as refusal
 use Rattle.image.specs.Image.{numberAt, headerOf, secondRule, offsetOf, partOf, refusalOf, programRefusalOf, programOf, startOf}
 use Rattle.image.specs.Opened.{opened}
 use Rattle.image.specs.Assembler.{instruction, end, set, reject, program, fields, image}
@@ -14,11 +15,11 @@ use Rattle.image.specs.Bench.{example-1, example-2, example-3, empty}
 
 -- the refusal's number of each of these images, 0 for none
 abbrev pub refusals : List (List ℕ) → List ℕ
-refusals = map (λ i. refusalOf i)
+refusals = map (λ i. refusalOf i .number)
 
 -- the refusal's number where a program is asked for
 abbrev programRefusal : List ℕ → ℕ → ℕ
-programRefusal i p = programRefusalOf i p
+programRefusal i p = programRefusalOf i p .number
 
 -- ---- "Sizes"
 
@@ -152,12 +153,16 @@ bench-sheet = refl
 -- ---- "What each refusal says"
 
 -- the column "no."
-numbers : badSize ∷ badHeader ∷ badOffsets ∷ badInstruction ∷ badTable ∷ badAreaSize ∷ badArea ∷ noSuchProgram ∷ wrongState ∷ noRoom ∷ tooMany ∷ noOrder ∷ []
-    ≡ 1 ∷ 2 ∷ 3 ∷ 4 ∷ 5 ∷ 6 ∷ 7 ∷ 8 ∷ 9 ∷ 10 ∷ 11 ∷ 12 ∷ []
+abbrev named : List Refusal
+named =
+    refusal.none ∷ refusal.imageSize ∷ refusal.header ∷ refusal.offsets ∷ refusal.instruction ∷ refusal.tableSize ∷ refusal.areaSize ∷ refusal.area
+    ∷ refusal.number ∷ refusal.state ∷ refusal.tooShort ∷ refusal.tooMany ∷ refusal.noOrder ∷ []
+
+numbers : map (λ r. r .number) named ≡ 0 ∷ 1 ∷ 2 ∷ 3 ∷ 4 ∷ 5 ∷ 6 ∷ 7 ∷ 8 ∷ 9 ∷ 10 ∷ 11 ∷ 12 ∷ []
 numbers = refl
 
 -- "21–24: as 1–4, for the fresh image"
-numbers-of-fresh : map ofFresh (1 ∷ 2 ∷ 3 ∷ 4 ∷ []) ≡ 21 ∷ 22 ∷ 23 ∷ 24 ∷ []
+numbers-of-fresh : map (λ r. refusal.ofFresh r .number) (refusal.imageSize ∷ refusal.header ∷ refusal.offsets ∷ refusal.instruction ∷ []) ≡ 21 ∷ 22 ∷ 23 ∷ 24 ∷ []
 numbers-of-fresh = refl
 
 -- "Checks go in the row order": 1 before 2 (rule 3 in 5 bytes), 2 before 3 (65 programs in 6 bytes), 3 before 4 (a byte too many after operation 9)

@@ -15,6 +15,7 @@ use Rattle.base.proofs.Parts.{words-length}
 use Rattle.image.specs.Limits.{maxPrograms, instructionBytes, maxProgramBytes}
 use Rattle.image.specs.declared.Refusal.{Refusal}
 use Rattle.image.specs.Refusals as refusal
+use Rattle.image.specs.Refusals.{check}
 use Rattle.image.specs.Instruction.{instructionsOf, placeGood, programGood}
 use Rattle.image.specs.Image.{byteAt, countOf, ruleByte, headerOf, offsetOf, bytesOf, partOf, Lies, sizeGood, headerGood}
 use Rattle.image.specs.Image.{holdsOffsets, firstGood, rises, whole, short, extentGood, extentsGood, lastGood, offsetsGood, codeGood}
@@ -123,6 +124,19 @@ accepted image e =
 pub accepted-is : (image : List ℕ) → Accepted image → refusal.none ≡ refusalOf image
 unfolding refusalOf
 accepted-is image a = goes-on _ (a .size) (goes-on _ (a .header) (goes-on _ (a .offsets) (goes-on _ (a .code) refl)))
+
+-- it is one of four
+pub refusal-few : (image : List ℕ) → refusalOf image .number ≤ refusal.instruction .number
+unfolding refusalOf check
+refusal-few image = go (sizeGood image) (headerGood (headerOf image)) (offsetsGood image) (codeGood image)
+  where
+    go : (a b c d : Bool)
+        → check a refusal.imageSize (check b refusal.header (check c refusal.offsets (check d refusal.instruction refusal.none))) .number ≤ 4
+    go true true true true = omega arith
+    go true true true false = omega arith
+    go true true false d = omega arith
+    go true false c d = omega arith
+    go false b c d = omega arith
 
 pub few-programs : (image : List ℕ) → headerGood (headerOf image) ≡ true → countOf image ≤ maxPrograms
 unfolding headerGood

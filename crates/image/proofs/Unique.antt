@@ -18,6 +18,8 @@ use Rattle.image.proofs.part_of.Kinds as part-of-kinds
 use Rattle.image.proofs.part_of.Reads as part-of
 use Rattle.image.proofs.image_refusal.Kinds as image-refusal-kinds
 use Rattle.image.proofs.image_refusal.Reads as image-refusal
+use Rattle.image.proofs.fresh_refusal.Kinds as fresh-refusal-kinds
+use Rattle.image.proofs.fresh_refusal.Reads as fresh-refusal
 use Rattle.image.proofs.program_refusal.Kinds as program-refusal-kinds
 use Rattle.image.proofs.program_refusal.Reads as program-refusal
 use Rattle.image.proofs.program.Kinds as program-kinds
@@ -49,6 +51,9 @@ part-of-unique κs a x y s t p q = cc
 
 pub image-refusal-unique : Unique 1 image-refusal-kinds.ps image-refusal-kinds.r (λ κs x s. x) image-refusal.Post
 image-refusal-unique κs a x y s t p q = p ∙ sym q
+
+pub fresh-refusal-unique : Unique 1 fresh-refusal-kinds.ps fresh-refusal-kinds.r (λ κs x s. x) fresh-refusal.Post
+fresh-refusal-unique κs a x y s t p q = p ∙ sym q
 
 pub program-refusal-unique : Unique 1 program-refusal-kinds.ps program-refusal-kinds.r (λ κs x s. x) program-refusal.Post
 program-refusal-unique κs a x y s t p q = p .answer ∙ sym (q .answer)

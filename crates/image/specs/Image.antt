@@ -12,7 +12,7 @@ use Rattle.image.specs.declared.Image.{Image}
 use Rattle.image.specs.Limits.{maxPrograms, instructionBytes, maxProgramBytes, headBytes, minBytes, maxBytes}
 use Rattle.image.specs.declared.Refusal.{Refusal}
 use Rattle.image.specs.Refusals as refusal
-use Rattle.image.specs.Refusals.{check, after, unless}
+use Rattle.image.specs.Refusals.{check, passes, after, unless}
 use Rattle.image.specs.Instruction.{programGood}
 
 -- the byte at a place, 0 past the end
@@ -103,6 +103,10 @@ refusalOf image =
     (check (offsetsGood image) refusal.offsets
     (check (codeGood image) refusal.instruction
     refusal.none)))
+
+-- "21–24: as 1–4, for the fresh image"
+unfoldable pub freshRefusalOf : List ℕ → Refusal
+freshRefusalOf image = check (passes (refusalOf image)) (refusal.ofFresh (refusalOf image)) refusal.none
 
 -- Handing back program p: "checks 1 to 4 and 8".
 unfoldable pub programRefusalOf : List ℕ → ℕ → Refusal

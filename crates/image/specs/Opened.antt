@@ -3,9 +3,9 @@ use Rattle.base.specs.Words.{every, words}
 use Rattle.image.specs.Refusals.{check, unless}
 use Rattle.image.specs.Instruction.{instructionGood, placeGood, programGood}
 use Rattle.image.specs.Image.{numberAt, partOf, sizeGood, headerGood, extentGood, extentsGood, offsetsGood, codeGood}
-use Rattle.image.specs.Image.{refusalOf, programRefusalOf, programOf, startOf}
+use Rattle.image.specs.Image.{refusalOf, freshRefusalOf, programRefusalOf, programOf, startOf}
 
 unfoldable pub opened : Unit {0}
 unfolding every words check unless instructionGood placeGood programGood numberAt partOf sizeGood headerGood extentGood extentsGood offsetsGood codeGood
-    refusalOf programRefusalOf programOf startOf
+    refusalOf freshRefusalOf programRefusalOf programOf startOf
 opened = tt

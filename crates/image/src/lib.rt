@@ -4,7 +4,7 @@ ghost use mathlib.Core.Bool.{true};
 ghost use Prim.Native.Nat.{_^_, _<_, _≤_};
 ghost use Rattle.image.specs.Limits.{headBytes};
 ghost use Rattle.image.specs.Image.{byteAt, numberAt, countOf, ruleByte, headerOf, secondRule, offsetOf, partOf, Lies, Part, startOf};
-ghost use Rattle.image.specs.Image.{sizeGood, headerGood, extentGood, extentsGood, offsetsGood, codeGood, refusalOf};
+ghost use Rattle.image.specs.Image.{sizeGood, headerGood, extentGood, extentsGood, offsetsGood, codeGood, refusalOf, freshRefusalOf};
 ghost use Rattle.image.specs.Image.{ProgramSays, ProgramRefusalSays};
 
 mod instruction;
@@ -255,6 +255,19 @@ pub fn image_refusal(bytes: &[u8]) -> Refusal
         return Refusal::INSTRUCTION;
     }
     Refusal::NONE
+}
+
+// The refusal of a fresh image: checks 21 to 24.
+pub fn fresh_refusal(bytes: &[u8]) -> Refusal
+    ensures { λ r. ⌜ r ≡ freshRefusalOf (now (bytes .entry)) ⌝ }
+{
+    let refused = image_refusal(bytes);
+    if refused.number == 0 {
+        return Refusal::NONE;
+    }
+    Refusal {
+        number: Refusal::FRESH + refused.number,
+    }
 }
 
 // Why no program is handed back: checks 1 to 4 and 8.

@@ -20,7 +20,7 @@ use Rattle.machine.specs.declared.Turn.the-variants.{Next, Stop}
 use Rattle.machine.specs.declared.Run.{Run}
 use Rattle.machine.specs.declared.Run.the-variants.{Finished}
 use Rattle.machine.specs.Asks.{Ask, move, start, askOf, askAt}
-use Rattle.machine.specs.Runs.{Step, stop, next, perform, Outcome, ended, since, seen, follow, runFrom, runOf, Runnable, Ready, Did, logAfter, turned}
+use Rattle.machine.specs.Runs.{Effect, stop, next, perform, Outcome, ended, since, seen, follow, runFrom, runOf, Runnable, Ready, Did, logAfter, turned}
 use Rattle.machine.proofs.Named.{first-byte}
 use Rattle.machine.proofs.Asked.{ask-forward}
 use Rattle.machine.proofs.Laws.{by-ask, turn-fits}
@@ -28,11 +28,11 @@ use Rattle.machine.proofs.Turns.{did-as}
 
 -- ---- a turn's answer tells the step
 
-answer-stop : (m : Machine) (s : Step) (x : Run) → turned m s .turn ≡ Stop x → s ≡ stop x (logAfter s)
+answer-stop : (m : Machine) (s : Effect) (x : Run) → turned m s .turn ≡ Stop x → s ≡ stop x (logAfter s)
 answer-stop m (stop r l) x e = let q : r ≡ x = cc in ap (λ (y : Run). stop y l) q
 answer-stop m (next m′ l) x e = let z : _≡_ {A = ℕ} 0 1 = cc in absurd (omega arith)
 
-answer-next : (m : Machine) (s : Step) → turned m s .turn ≡ Next → s ≡ next (turned m s .machine) (logAfter s)
+answer-next : (m : Machine) (s : Effect) → turned m s .turn ≡ Next → s ≡ next (turned m s .machine) (logAfter s)
 answer-next m (stop r l) e = let z : _≡_ {A = ℕ} 0 1 = cc in absurd (omega arith)
 answer-next m (next m′ l) e = refl
 
@@ -136,7 +136,7 @@ module _ {p t : List ℕ} {m : Machine} {slot marks : List ℕ} (runs : Runnable
   turn-from n l h = rw (lt-ltb (m .place) (instructionsOf p) h)
 
   -- what is left after the turn: n turns, from the step that was taken
-  record Left (n : ℕ) (s : Step) : Type 0 where
+  record Left (n : ℕ) (s : Effect) : Type 0 where
     pub one-less : g .fuel ≡ suc n
     pub left-answer : runOf p t .answer ≡ follow (runFrom n p t) s .answer
     pub left-log : runOf p t .log ≡ follow (runFrom n p t) s .log
@@ -160,7 +160,7 @@ module _ {p t : List ℕ} {m : Machine} {slot marks : List ℕ} (runs : Runnable
     did-is : Did t m (g .log) (askAt p m) r slot′ marks′
     did-is = rw log-is at (did-as (ask-read p m) d)
 
-    abbrev taken : Step
+    abbrev taken : Effect
     taken = perform t m (g .log) (askAt p m)
 
     pub going-stop : (x : Run) → r .turn ≡ Stop x → (x ≡ runOf p t .answer) × (slot′ ≡ layout waiting 0 (runOf p t .log))
@@ -168,8 +168,8 @@ module _ {p t : List ℕ} {m : Machine} {slot marks : List ℕ} (runs : Runnable
     going-stop x e =
         let q : taken ≡ stop x (logAfter taken) = answer-stop m taken x (sym (ap (λ (y : Turned). y .turn) (did-is .answered)) ∙ e) in
         let w = turn-left u .1 in (
-          sym (w .left-answer ∙ ap (λ (s : Step). follow (runFrom (turn-left u .0) p t) s .answer) q),
-          did-is .logged ∙ ap (layout waiting 0) (sym (w .left-log ∙ ap (λ (s : Step). follow (runFrom (turn-left u .0) p t) s .log) q)),
+          sym (w .left-answer ∙ ap (λ (s : Effect). follow (runFrom (turn-left u .0) p t) s .answer) q),
+          did-is .logged ∙ ap (layout waiting 0) (sym (w .left-log ∙ ap (λ (s : Effect). follow (runFrom (turn-left u .0) p t) s .log) q)),
         )
 
     step-next : r .turn ≡ Next → taken ≡ next (r .machine) (logAfter taken)
@@ -196,6 +196,6 @@ module _ {p t : List ℕ} {m : Machine} {slot marks : List ℕ} (runs : Runnable
           room = f .1;
           fitting = f .0;
           marked = did-is .marked;
-          same-answer = w .left-answer ∙ ap (λ (s : Step). follow (runFrom n p t) s .answer) (step-next e);
-          same-log = w .left-log ∙ ap (λ (s : Step). follow (runFrom n p t) s .log) (step-next e);
+          same-answer = w .left-answer ∙ ap (λ (s : Effect). follow (runFrom n p t) s .answer) (step-next e);
+          same-log = w .left-log ∙ ap (λ (s : Effect). follow (runFrom n p t) s .log) (step-next e);
         }

@@ -23,14 +23,14 @@ use Rattle.machine.specs.declared.Machine.{Machine}
 use Rattle.machine.specs.declared.Run.{Run}
 use Rattle.machine.specs.declared.Run.the-variants.{Finished, Rejected, Faulted}
 use Rattle.machine.specs.Asks.{Ask, halt, move, fetch, put, start, written, passed, askAt}
-use Rattle.machine.specs.Runs.{Step, stop, next, loadFault, storeFault, perform, seen, Outcome, ended, since, follow, runFrom, runOf}
+use Rattle.machine.specs.Runs.{Effect, stop, next, loadFault, storeFault, perform, seen, Outcome, ended, since, follow, runFrom, runOf}
 use Rattle.machine.specs.Runs.{stateOfRun, detailOfRun, kept, keptBy, slotOf, Runnable, logAfter}
 use Rattle.machine.proofs.Asked.{Under, under-none, under-append, under-one, under-set, word, Small, ask-small}
 
 -- ---- a turn and a run, by cases
 
 -- what a turn does: it stops, moves, loads a cell of the table, or stores one
-module _ (t : List ℕ) (m : Machine) (l : Log) (P : Step → Type 0) where
+module _ (t : List ℕ) (m : Machine) (l : Log) (P : Effect → Type 0) where
   pub by-ask : (k : Ask) → ((r : Run) → P (stop r l)) → ((m′ : Machine) → k ≡ move m′ → P (next m′ l))
       → ((a c : ℕ) → c < length t → P (next (written m a (loaded l c (getD t c 0))) (withRead l c)))
       → ((c v : ℕ) → k ≡ put c v → c < length t → P (next (passed m) (withStore l c v)))
@@ -72,7 +72,7 @@ module _ (p t : List ℕ) (P : ℕ → Log → Type 0) (wait : (u : ℕ) (l : Lo
       go true on off = on
       go false on off = off
 
-      after : (s : Step) → P (u + 1) (logAfter s) → ((u : ℕ) (m : Machine) (l : Log) → P u l → P (u + n) (runFrom n p t m l .log))
+      after : (s : Effect) → P (u + 1) (logAfter s) → ((u : ℕ) (m : Machine) (l : Log) → P u l → P (u + n) (runFrom n p t m l .log))
           → P (u + 1 + n) (follow (runFrom n p t) s .log)
       after (stop r l) k ih = waits n (u + 1) l k
       after (next m l) k ih = ih (u + 1) m l k
@@ -129,12 +129,12 @@ module _ (p t t′ : List ℕ) (same : length t ≡ length t′) where
   run-same zero m l h = refl
   run-same (suc n) m l h = go (ltb (m .place) (instructionsOf p)) h (run-same n)
     where
-      after : (s : Step) → ((m : Machine) (l : Log) → Agree (runFrom n p t m l .log .reads) → runFrom n p t′ m l ≡ runFrom n p t m l)
+      after : (s : Effect) → ((m : Machine) (l : Log) → Agree (runFrom n p t m l .log .reads) → runFrom n p t′ m l ≡ runFrom n p t m l)
           → Agree (follow (runFrom n p t) s .log .reads) → follow (runFrom n p t′) s ≡ follow (runFrom n p t) s
       after (stop r l) ih a = refl
       after (next m l) ih a = ih m l a
 
-      stays : (s : Step) (d : ℕ) → has d (logAfter s .reads) ≡ true → has d (follow (runFrom n p t) s .log .reads) ≡ true
+      stays : (s : Effect) (d : ℕ) → has d (logAfter s .reads) ≡ true → has d (follow (runFrom n p t) s .log .reads) ≡ true
       stays (stop r l) d e = e
       stays (next m l) d e = run-keeps n p t m l d e
 
@@ -142,7 +142,7 @@ module _ (p t t′ : List ℕ) (same : length t ≡ length t′) where
           → ((m : Machine) (l : Log) → Agree (runFrom n p t m l .log .reads) → runFrom n p t′ m l ≡ runFrom n p t m l)
           → cond b (turnOf n p t′ m l) (ended l) ≡ cond b (turnOf n p t m l) (ended l)
       go true a ih =
-          let s : Step = perform t m l (askAt p m) in
+          let s : Effect = perform t m l (askAt p m) in
           let w = turn-same m l (askAt p m) (λ d e. a d (stays s d e)) in
           rw (w .0, w .1, after s ih a)
       go false a ih = refl
@@ -178,7 +178,7 @@ module _ (p t : List ℕ) (bytes : Under 256 p) (cells : Under word t) where
     pub fine-registers : Under word (m .registers)
     pub fine-values : Under word (l .values)
 
-  abbrev After : Step → Type 0
+  abbrev After : Effect → Type 0
   After (stop r l) = Under word (l .values)
   After (next m l) = Fine m l
 
@@ -219,7 +219,7 @@ module _ (p t : List ℕ) (bytes : Under 256 p) (cells : Under word t) where
   run-small zero m l h = (h .fine-values, under-none word (omega arith))
   run-small (suc n) m l h = go (ltb (m .place) (instructionsOf p)) (after (perform t m l (askAt p m)) (turn-small m l h) (run-small n))
     where
-      after : (s : Step) → After s
+      after : (s : Effect) → After s
           → ((m : Machine) (l : Log) → Fine m l → Under word (runFrom n p t m l .log .values) × Under word (runFrom n p t m l .loads))
           → Under word (follow (runFrom n p t) s .log .values) × Under word (follow (runFrom n p t) s .loads)
       after (stop r l) a ih = (a, under-none word (omega arith))

@@ -15,7 +15,7 @@ use Rattle.machine.specs.declared.Turned.{Turned}
 use Rattle.machine.specs.declared.Run.{Run}
 use Rattle.machine.specs.declared.Run.the-variants.{Faulted}
 use Rattle.machine.specs.Asks.{Ask, halt, move, fetch, put, written, passed}
-use Rattle.machine.specs.Runs.{Step, stop, next, loadFault, storeFault, perform, Ready, Did, logAfter, turned}
+use Rattle.machine.specs.Runs.{Effect, stop, next, loadFault, storeFault, perform, Ready, Did, logAfter, turned}
 
 -- ---- the cases of a load and of a store
 
@@ -49,7 +49,7 @@ load-own t m s h r c same a u k e n =
 
 -- ---- a turn whose step is known
 
-did : {t : List ℕ} {m : Machine} {l : Log} {k : Ask} {r : Turned} {slot marks : List ℕ} (s : Step) → perform t m l k ≡ s → r ≡ turned m s
+did : {t : List ℕ} {m : Machine} {l : Log} {k : Ask} {r : Turned} {slot marks : List ℕ} (s : Effect) → perform t m l k ≡ s → r ≡ turned m s
     → slot ≡ layout waiting 0 (logAfter s) → Marked marks (logAfter s .cells) → Did t m l k r slot marks
 did s e p q h = record { answered = rw e p; logged = rw e q; marked = rw e h }
 

@@ -20,9 +20,9 @@ use Rattle.machine.specs.Asks.{Ask, halt, move, fetch, put, start, writt
 -- ---- one turn
 
 -- the run stops, or goes on
-pub data Step : Type 0 where
-  stop : Run → Log → Step
-  next : Machine → Log → Step
+pub data Effect : Type 0 where
+  stop : Run → Log → Effect
+  next : Machine → Log → Effect
 
 -- "A cell number of T or more is a fault with a kind and a place: kind 1 at a load, 2 at a store."
 abbrev pub loadFault : ℕ
@@ -32,7 +32,7 @@ abbrev pub storeFault : ℕ
 storeFault = 2
 
 -- what an ask does on the table t, from the log l
-unfoldable pub perform : List ℕ → Machine → Log → Ask → Step
+unfoldable pub perform : List ℕ → Machine → Log → Ask → Effect
 perform t m l (halt r) = stop r l
 perform t m l (move m′) = next m′ l
 perform t m l (fetch a c) =
@@ -66,7 +66,7 @@ since place values o = record { answer = o .answer; log = o .log; path = place �
 abbrev pub stopped : Run → Log → Outcome
 stopped r l = record { answer = r; log = l; path = []; loads = [] }
 
-unfoldable pub follow : (Machine → Log → Outcome) → Step → Outcome
+unfoldable pub follow : (Machine → Log → Outcome) → Effect → Outcome
 follow on (stop r l) = stopped r l
 follow on (next m l) = on m l
 
@@ -132,12 +132,12 @@ pub record Ready (t : List ℕ) (m : Machine) (slot marks : List ℕ) : Type 0 w
   pub holds : Holds slot
   pub marked : Marked marks (logOf slot .cells)
 
-abbrev pub logAfter : Step → Log
+abbrev pub logAfter : Effect → Log
 logAfter (stop r l) = l
 logAfter (next m l) = l
 
 -- a turn's answer; a machine that stops stays as it was
-abbrev pub turned : Machine → Step → Turned
+abbrev pub turned : Machine → Effect → Turned
 turned m (stop r l) = record { turn = Stop r; machine = m }
 turned m (next m′ l) = record { turn = Next; machine = m′ }
 

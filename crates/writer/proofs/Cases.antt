@@ -3,7 +3,7 @@ use mathlib.Core.Path.{_≡_, refl}
 use mathlib.Core.List.{List, [], _∷_, _++_}
 use Prim.Native.Nat.{ℕ}
 use Rattle.base.specs.Masks.{hasBit}
-use Rattle.image.proofs.Assembler.{program, fields, image, set, store}
+use Rattle.image.specs.Assembler.{program, fields, image, set, store}
 use Rattle.writer.specs.Joined.{imageOf}
 use Rattle.writer.specs.Picked.{picked}
 use Rattle.writer.specs.Opened.{opened}

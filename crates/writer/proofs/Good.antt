@@ -16,6 +16,7 @@ use Rattle.image.specs.Limits.{maxPrograms, instructionBytes, maxProgramBytes, 
 use Rattle.image.specs.Instruction.{programGood}
 use Rattle.image.specs.Image.{byteAt, numberAt, countOf, ruleByte, offsetOf, bytesOf, partOf}
 use Rattle.image.specs.Image.{sizeGood, headerGood, headerOf, rises, whole, short, extentGood, extentsGood, holdsOffsets, firstGood, lastGood, offsetsGood, codeGood, refusalOf}
+use Rattle.image.proofs.Refusing.{number-of}
 use Rattle.image.proofs.Laws.{accepted-is}
 use Rattle.writer.specs.Joined.{number, joined, ends, offsets, imageOf}
 use Rattle.writer.specs.Picked.{picked, allOf}
@@ -181,8 +182,8 @@ module _ (rule : ℕ) (xs : List (List ℕ)) (few : length xs ≤ maxPrograms) (
       every-from (countOf (imageOf rule xs)) (λ p. programGood (partOf (imageOf rule xs) p))
       (λ i l. let h : i < length xs = omega (arith, image-count) in ap programGood (image-part i h) ∙ all-at xs i fine h .code)
 
-  pub image-good : rule ≤ 2 → refusalOf (imageOf rule xs) ≡ 0
-  image-good h = accepted-is (imageOf rule xs) (record { size = size-good; header = header-good h; offsets = offsets-good; code = code-good })
+  pub image-good : rule ≤ 2 → refusalOf (imageOf rule xs) .number ≡ 0
+  image-good h = number-of (sym (accepted-is (imageOf rule xs) (record { size = size-good; header = header-good h; offsets = offsets-good; code = code-good })))
 
   -- its programs are xs, in their order
   pub image-programs : allOf (imageOf rule xs) ≡ xs

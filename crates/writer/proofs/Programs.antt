@@ -193,7 +193,7 @@ picked-ext p q image (suc n) h = rw (picked-ext p q image n (λ k l. h k (omega 
 -- ---- a source
 
 -- the programs of a good image, whichever the mask has
-pub good-source : (image : List ℕ) → refusalOf image ≡ 0 → (n : ℕ) → n ≡ countOf image → (mask : ℕ) → Source image n mask
+pub good-source : (image : List ℕ) → refusalOf image .number ≡ 0 → (n : ℕ) → n ≡ countOf image → (mask : ℕ) → Source image n mask
 good-source image good n e mask =
     let g = accepted image good in
     record { few = omega (arith, few-programs image (g .header)); lies = λ k l b. lies image (g .offsets) k (omega arith) }

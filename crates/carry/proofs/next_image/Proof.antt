@@ -4,8 +4,10 @@ use mathlib.Core.Path.{_≡_, sym, _∙_}
 use Prim.Native.Nat.{_+_}
 use native.Mathlib.Omega.{arith}
 use borrow.Author.Needs.{needs}
-use Rattle.carry.specs.Next.{lentRefusal}
-use Rattle.carry.proofs.Checks.{lent-shows, next-lent, next-refused}
+use Rattle.image.proofs.Refusing.{first-refuses, number-of}
+use Rattle.area.proofs.Checks.{measured}
+use Rattle.carry.specs.Next.{lentRefusal, nextRefusal}
+use Rattle.carry.proofs.Checks.{lent-shows, next-refused}
 use Rattle.carry.proofs.Taken.{Taken, taken-sources, taken-size, taken-fits, taken-done}
 use Rattle.carry.proofs.next_image.Statement.{statement}
 use Rattle.carry.proofs.next_image.Tie as tie
@@ -14,19 +16,20 @@ abbrev start-of : tie.After-lent-refusal → tie.Start
 start-of c = c .before .before .before .before .before .before
 
 -- what is lent is not refused
-lent : (c : tie.Else1) → (let a = start-of (c .before) .args in lentRefusal (a .image .now) (a .table .now) (a .area .now) (a .fresh .now) ≡ 0)
-lent c = sym (c .before .lent-refusal .ensures) ∙ c .if1 .left
+lent : (c : tie.Else1)
+    → (let a = start-of (c .before .before) .args in lentRefusal (a .image .now) (a .table .now) (a .area .now) (a .fresh .now) .number ≡ 0)
+lent c = number-of (sym (c .before .before .lent-refusal .ensures)) ∙ c .if1 .left
 
 abbrev begin-of : tie.After-taken-count → tie.Start
-begin-of c = start-of (c .before .before .before .before .before)
+begin-of c = start-of (c .before .before .before .before .before .before)
 
 taken : (c : tie.After-taken-count) → (let a = begin-of c .args in let m = c .before .before .count2 .result in
-    Taken (a .image .now) (a .table .now) (a .area .now) (a .fresh .now) (c .before .before .before .count .result) m (c .before .carried-mask .result) (c .taken-count .result + m))
+    Taken (a .image .now) (a .table .now) (a .area .now) (a .fresh .now) (c .before .before .before .count .result) m (c .before .members .result) (c .taken-count .result + m))
 taken c = record {
   lent = lent (c .before .before .before .before);
   n-is = c .before .before .before .count .ensures .0;
   m-is = c .before .before .count2 .ensures .0;
-  mask-is = c .before .carried-mask .ensures;
+  mask-is = c .before .members .ensures;
   counted = omega (arith, c .taken-count .ensures .0);
 }
 
@@ -34,10 +37,11 @@ lent-refusal-requires : tie.Need-lent-refusal-requires
 lent-refusal-requires c κs = search needs
 
 returns : tie.Need-returns
+unfolding nextRefusal
 returns c =
-    let a = start-of (c .before) .args in
+    let a = start-of (c .before .before) .args in
     next-refused (a .image .now) (a .table .now) (a .area .now) (a .fresh .now) (a .out .now) _
-    (next-lent _ _ _ _ (a .out .now) _ (c .before .lent-refusal .ensures) (c .if1 .taken)) (c .if1 .taken)
+    (first-refuses _ (c .before .before .lent-refusal .ensures) (c .if1 .taken)) (c .if1 .taken)
 
 count-requires : tie.Need-count-requires
 count-requires c κs = search needs
@@ -45,11 +49,9 @@ count-requires c κs = search needs
 count-requires-2 : tie.Need-count-requires-2
 count-requires-2 c κs = search needs
 
-carried-mask-requires : tie.Need-carried-mask-requires
-carried-mask-requires c κs =
-    let k = lent-shows _ _ _ _ (lent (c .before .before)) .0 in
-    let n = c .before .count .ensures .0 in
-    (k .cells-few, omega (arith, k .programs, n), omega (arith, k .sized, n))
+members-requires : tie.Need-members-requires
+members-requires c κs =
+    measured _ _ _ (lent-shows _ _ _ _ (lent (c .before .before)) .0) _ (c .before .count .ensures .0)
 
 taken-count-requires : tie.Need-taken-count-requires
 taken-count-requires c κs = omega (arith, lent-shows _ _ _ _ (lent (c .before .before .before)) .0 .programs, c .before .before .count .ensures .0)
@@ -65,14 +67,15 @@ same-length c = search needs
 
 returns-2 : tie.Need-returns-2
 returns-2 c =
-    let k = c .before .before .before in
+    let s = c .before .before in
+    let k = s .before .before in
     let a = begin-of k .args in
     next-refused (a .image .now) (a .table .now) (a .area .now) (a .fresh .now) (a .out .now) _
-    (taken-size (taken k) (a .out .now) (c .before .size-refusal .ensures)) (c .if2 .taken)
+    (taken-size (taken k) (a .out .now) (s .size-refusal .ensures)) (c .if2 .taken)
 
 write-next-requires : tie.Need-write-next-requires
 write-next-requires c κs =
-    let s = c .before .before in
+    let s = c .before .before .before in
     let k = taken (s .before .before) in
     (taken-sources k, taken-fits k _ (s .size-refusal .ensures) (c .before .if2 .left))
 
@@ -82,7 +85,8 @@ same-length-2 c = search needs
 returns-3 : tie.Need-returns-3
 returns-3 c =
     let e = c .before .before .before .before in
-    taken-done (taken (e .before .before .before)) _ (e .before .size-refusal .ensures) (e .if2 .left) (c .before .before .write-next .ensures)
+    let s = e .before .before in
+    taken-done (taken (s .before .before)) _ (s .size-refusal .ensures) (e .if2 .left) (c .before .before .write-next .ensures)
 
 pub next-image-spec : {M : Type 1} → statement M
 next-image-spec =
@@ -92,7 +96,7 @@ next-image-spec =
     returns
     count-requires
     count-requires-2
-    carried-mask-requires
+    members-requires
     taken-count-requires
     add-programs
     size-refusal-requires

@@ -1,22 +1,44 @@
--- Each return cites the law of the check that led there: 11, then 10. Assumes nothing.
-use mathlib.Core.Path.{sym}
+-- 11 first, then 10. Assumes nothing.
+use mathlib.Core.Path.{_≡_, refl}
+use mathlib.Core.List.{List}
+use Prim.Native.Nat.{ℕ, _≤_, _<_}
 use native.Mathlib.Omega.{arith}
+use lib.ListN.{length}
+use borrow.Author.Tests.{le-leb, lt-leb}
+use Rattle.image.proofs.Refusing.{fails, goes-on}
+use Rattle.carry.specs.Next.{sizeRefusal}
+use Rattle.carry.specs.Sources.{imageFrom}
 use borrow.Author.Needs.{needs}
-use Rattle.carry.proofs.Checks.{size-many, size-long, size-none}
 use Rattle.carry.proofs.size_refusal.Statement.{statement}
 use Rattle.carry.proofs.size_refusal.Tie as tie
 
+abbrev start : tie.After-next-length → tie.Start
+start c = c .before .before .before .before .before
+
+abbrev next : tie.After-next-length → List ℕ
+next c = let a = start c .args in imageFrom (a .image .now) (a .n) (a .mask) (a .fresh .now) (a .m)
+
+abbrev out : tie.After-next-length → List ℕ
+out c = start c .args .out .now
+
 returns : tie.Need-returns
-returns c = sym (size-many _ _ _ (omega arith))
+unfolding sizeRefusal
+returns c = fails _ (lt-leb _ _ (c .if1 .taken))
 
 next-length-requires : tie.Need-next-length-requires
 next-length-requires c κs = search needs
 
 returns-2 : tie.Need-returns-2
-returns-2 c = sym (size-long _ _ _ (omega arith) (rw (← c .before .next-length .ensures) (omega arith)))
+unfolding sizeRefusal
+returns-2 c =
+    let l : length (out (c .before)) < length (next (c .before)) = rw (← c .before .next-length .ensures) (c .if2 .taken) in
+    goes-on _ (le-leb _ _ (c .before .before .if1 .left)) (fails _ (lt-leb _ _ l))
 
 returns-3 : tie.Need-returns-3
-returns-3 c = sym (size-none _ _ _ (omega arith) (rw (← c .before .next-length .ensures) (omega arith)))
+unfolding sizeRefusal
+returns-3 c =
+    let l : length (next (c .before)) ≤ length (out (c .before)) = rw (← c .before .next-length .ensures) (c .if2 .left) in
+    goes-on _ (le-leb _ _ (c .before .before .if1 .left)) (goes-on _ (le-leb _ _ l) refl)
 
 pub size-refusal-spec : {M : Type 1} → statement M
 size-refusal-spec = tie.close (tie.spec returns next-length-requires returns-2 returns-3)
