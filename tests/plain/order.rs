@@ -1,7 +1,7 @@
 //! The listed order.
 //! Document 01, "The steps"; checks 9, 10 and 12 of the order.
 
-use crate::area::{self, COMMITTED, GATHERED};
+use crate::area::{self, CELLS, COMMITTED, GATHERED};
 use crate::image::PROGRAMS;
 use crate::{refusal, Count};
 
@@ -30,14 +30,15 @@ fn order_checked(image: &[u8], table: &[u32], area: &[u32], list: &mut [u32]) ->
 /// A set of programs is 64 bits, bit i for program i.
 fn take_in_turn(area: &[u32], cells: usize, order: &mut [u32; PROGRAMS]) -> Option<usize> {
     let committed = committed_programs(area, cells);
-    let mut readers = [0u64; PROGRAMS];
+    let readers = readers_of_cells(area, cells, committed);
+    let mut waits_for = [0u64; PROGRAMS];
     for number in members(committed) {
-        readers[number] = other_readers(area, cells, number, committed);
+        waits_for[number] = other_readers(&readers, area::stores(area::slot(area, cells, number)), number);
     }
     let mut left = committed;
     let mut count = 0;
     while left != 0 {
-        let number = members(left).find(|&number| readers[number] & left == 0)?;
+        let number = members(left).find(|&number| waits_for[number] & left == 0)?;
         order[count] = number as u32;
         count += 1;
         left &= !(1 << number);
@@ -50,16 +51,22 @@ fn committed_programs(area: &[u32], cells: usize) -> u64 {
     states.filter(|&(_, state)| state == COMMITTED).fold(0, |set, (number, _)| set | 1 << number)
 }
 
-/// The committed programs other than this one that read a cell which it stores.
-/// Its own reads never hold a program up.
-fn other_readers(area: &[u32], cells: usize, number: usize, committed: u64) -> u64 {
-    let stores = area::stores(area::slot(area, cells, number));
-    let reads_a_stored_cell = |other: &usize| {
-        let reads = area::reads(area::slot(area, cells, *other));
-        stores.iter().any(|cell| reads.contains(cell))
-    };
-    let others = committed & !(1 << number);
-    members(others).filter(reads_a_stored_cell).fold(0, |set, other| set | 1 << other)
+/// For each cell, the programs of a set that read it.
+fn readers_of_cells(area: &[u32], cells: usize, programs: u64) -> [u64; CELLS] {
+    let mut readers = [0u64; CELLS];
+    for number in members(programs) {
+        for &cell in area::reads(area::slot(area, cells, number)) {
+            readers[cell as usize] |= 1 << number;
+        }
+    }
+    readers
+}
+
+/// The readers, other than this program, of the cells that it stores. Its own reads never hold a
+/// program up.
+fn other_readers(readers: &[u64; CELLS], stores: &[u32], number: usize) -> u64 {
+    let all = stores.iter().fold(0, |set, &cell| set | readers[cell as usize]);
+    all & !(1 << number)
 }
 
 /// The programs of a set, in rising order.

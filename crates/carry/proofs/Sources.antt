@@ -9,7 +9,7 @@ use lib.ListN.{length, length-append}
 use Rattle.base.specs.Words.{count}
 use Rattle.base.specs.Masks.{hasBit, maskOf}
 use Rattle.base.proofs.Counts.{count-all, count-ext}
-use Rattle.base.proofs.Masks.{has-bit}
+use Rattle.base.proofs.Masks.{mask-has}
 use Rattle.image.specs.Limits.{headBytes}
 use Rattle.image.specs.Image.{countOf, ruleByte}
 use Rattle.writer.specs.Joined.{joined, imageOf}
@@ -35,7 +35,7 @@ module _ {image : List ℕ} {n mask : ℕ} {fresh : List ℕ} {m programs : ℕ}
 
   pub from-count : programs ≡ length (old ++ new)
   from-count =
-      let new-count = picked-count (hasBit all) fresh m ∙ count-all (hasBit all) m (λ k l. rw all-is (has-bit (λ k. true) m k l)) in
+      let new-count = picked-count (hasBit all) fresh m ∙ count-all (hasBit all) m (λ k l. rw all-is (mask-has (λ k. true) m k l)) in
       omega (arith, s .counted, length-append old new, picked-count (hasBit mask) image n, new-count)
 
   pub from-length : length (imageFrom image n mask fresh m) ≡ headBytes programs + length (joined old) + length (joined new)
@@ -48,14 +48,14 @@ module _ {image : List ℕ} {n mask : ℕ} {fresh : List ℕ} {m programs : ℕ}
 module _ (T : ℕ) (a image : List ℕ) {n mask : ℕ} (n-is : n ≡ countOf image) (mask-is : mask ≡ maskOf (isCarried T a) n) where
   pub carried-counted : count (hasBit mask) n ≡ carriedCount T (countOf image) a
   unfolding carriedCount
-  carried-counted = rw (mask-is, ← n-is) (count-ext _ _ n (has-bit (isCarried T a) n))
+  carried-counted = rw (mask-is, ← n-is) (count-ext _ _ n (mask-has (isCarried T a) n))
 
   carried-programs : picked (hasBit mask) image n ≡ carriedOf T image a
-  carried-programs = rw (mask-is, ← n-is) (picked-ext _ _ image n (has-bit (isCarried T a) n))
+  carried-programs = rw (mask-is, ← n-is) (picked-ext _ _ image n (mask-has (isCarried T a) n))
 
   pub from-is : (fresh : List ℕ) (m : ℕ) → m ≡ countOf fresh → imageFrom image n mask fresh m ≡ nextImage T image a fresh
   unfolding imageFrom nextImage nextPrograms
   from-is fresh m m-is = rw carried-programs (ap (λ (qs : List (List ℕ)). imageOf (ruleByte fresh) (carriedOf T image a ++ qs)) all-programs)
     where
       all-programs : picked (hasBit (maskOf (λ k. true) m)) fresh m ≡ allOf fresh
-      all-programs = rw (← m-is) (picked-ext _ _ fresh m (has-bit (λ k. true) m))
+      all-programs = rw (← m-is) (picked-ext _ _ fresh m (mask-has (λ k. true) m))

@@ -1,9 +1,9 @@
 pub mod Cases
-pub mod Cells
 pub mod Knots
 pub mod Masks
 pub mod Orders
 pub mod Picks
+pub mod Readers
 pub mod Rising
 pub mod Taken
 pub mod Turns

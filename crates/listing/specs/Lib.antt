@@ -1,5 +1,5 @@
 pub mod Order
 pub mod Listing
 pub mod Masks
-pub mod Cells
+pub mod Readers
 pub mod Opened

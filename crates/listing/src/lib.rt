@@ -1,17 +1,17 @@
 // The listed order: document 01, "Listed order".
 ghost use mathlib.Core.Path.{_≡_};
-ghost use mathlib.Core.Bool.{true, cond};
-ghost use mathlib.Core.List.{List, _++_};
-ghost use Prim.Native.Nat.{ℕ, _+_, _^_, _<_, _≤_};
-ghost use lib.ListN.{length, getD, take, drop};
-ghost use Rattle.base.specs.Words.{meets, first, words};
+ghost use mathlib.Core.Bool.{cond};
+ghost use mathlib.Core.List.{_++_};
+ghost use Prim.Native.Nat.{_+_, _*_, _%_, _^_, _<_, _≤_};
+ghost use lib.ListN.{length, take, drop, replicate};
+ghost use Rattle.base.specs.Words.{first, words};
 ghost use Rattle.image.specs.Limits.{maxPrograms, maxCells};
 ghost use Rattle.area.specs.Layout.{storesOf};
 ghost use Rattle.area.specs.Checks.{Slotted};
 ghost use Rattle.listing.specs.Listing.{isCommitted, committedCount, listRefusal, OrderSays, Lists};
-ghost use Rattle.base.specs.Masks.{maskOf};
-ghost use Rattle.listing.specs.Masks.{blocking, free, picks, Slots};
-ghost use Rattle.listing.specs.Cells.{setWords, inSet, withCell, Holds, CellsAt};
+ghost use Rattle.base.specs.Masks.{wordBits, maskOf};
+ghost use Rattle.listing.specs.Readers.{groupSize, withBits, bitsFor, committedReads, CellsAt, Group, ReadersOf, SetIn, Added, Blockers};
+ghost use Rattle.listing.specs.Masks.{Least, free, Picked, Slots, CommittedSet};
 
 // What the listed order answers.
 pub enum Listed {
@@ -19,58 +19,34 @@ pub enum Listed {
     Count(usize),
 }
 
-// The bits of a word of a set.
-const WORD_BITS: usize = 64;
+// How many programs a group has: those of them that read a cell are the bits of a byte.
+const GROUP: usize = 8;
 
-// The words of a set of cells.
-const SET_WORDS: usize = image::Image::CELLS / WORD_BITS;
+// For each cell, the programs of a group that read it, a bit each.
+type Readers = [u8; image::Image::CELLS];
 
-// A set of cells, a bit each.
-type Cells = [u64; SET_WORDS];
-
-// Puts a cell into a set.
-fn put_cell(set: &mut Cells, cell: u32)
-    requires { ⌜ (cell < maxCells) × (length (now set) ≡ setWords) ⌝ }
-    ensures { λ _. ⌜ now (set .exit) ≡ withCell (now (set .entry)) cell ⌝ }
+// Sets a bit for each of the count cells from the word `at` on.
+fn set_bits(area: &[u32], at: usize, count: usize, bit: u8, readers: &mut Readers)
+    requires { ⌜ CellsAt at count (now area) × (length (now readers) ≡ maxCells) ⌝ }
+    ensures { λ _. ⌜ now (readers .exit) ≡ withBits bit (words at count (now (area .entry))) (now (readers .entry)) ⌝ }
 {
-    let word = cell as usize / WORD_BITS;
-    let bit = cell as usize % WORD_BITS;
-    set[word] = set[word] | 1 << bit;
-}
-
-// Whether a cell is in a set.
-fn in_set(set: &Cells, cell: u32) -> bool
-    requires { ⌜ cell < maxCells ⌝ }
-    ensures { λ r. ⌜ r ≡ inSet (now (set .entry)) cell ⌝ }
-{
-    let word = cell as usize / WORD_BITS;
-    let bit = cell as usize % WORD_BITS;
-    set[word] >> bit & 1 == 1
-}
-
-// The set of the n cells from the word start on.
-fn set_of(area: &[u32], start: usize, n: usize) -> Cells
-    requires { ⌜ CellsAt start n (now area) ⌝ }
-    ensures { λ r. ⌜ Holds r (words start n (now (area .entry))) ⌝ }
-{
-    let mut set: Cells = [0; SET_WORDS];
-    for k in 0..n {
-        put_cell(&mut set, area[start + k]);
+    for k in 0..count {
+        let cell = area[at + k] as usize;
+        readers[cell] = readers[cell] | bit;
     }
-    set
 }
 
-// Whether one of the n cells from the word start on is in a set.
-fn meets_set(area: &[u32], start: usize, n: usize, set: &Cells) -> bool
-    requires { ⌜ CellsAt start n (now area) ⌝ }
-    ensures { λ r. ⌜ ((cells : List ℕ) → Holds (now (set .entry)) cells → r ≡ meets (words start n (now (area .entry))) cells) ⌝ }
+// The bits that are set for one of the count cells from the word `at` on.
+fn bits_for(area: &[u32], at: usize, count: usize, readers: &Readers) -> u8
+    requires { ⌜ CellsAt at count (now area) ⌝ }
+    ensures { λ r. ⌜ r ≡ bitsFor (now (readers .entry)) 0 (words at count (now (area .entry))) ⌝ }
 {
-    for k in 0..n {
-        if in_set(set, area[start + k]) {
-            return true;
-        }
+    let mut found: u8 = 0;
+    for k in 0..count {
+        let cell = area[at + k] as usize;
+        found = found | readers[cell];
     }
-    false
+    found
 }
 
 // Whether program i is committed.
@@ -79,32 +55,6 @@ fn is_committed(area: &[u32], cells: usize, i: usize) -> bool
     ensures { λ r. ⌜ r ≡ isCommitted cells (now (area .entry)) i ⌝ }
 {
     area::state(area, cells, i) == slot::COMMITTED
-}
-
-// The cells that program i stores.
-fn stored_cells(area: &[u32], cells: usize, i: usize) -> Cells
-    requires { ⌜ Slotted cells i (now area) ⌝ }
-    ensures { λ r. ⌜ Holds r (storesOf cells i (now (area .entry))) ⌝ }
-{
-    let at = area::slot_start(cells, i);
-    let count = area[at + slot::STORE_COUNT] as usize;
-    set_of(area, at + slot::STORES, count)
-}
-
-// Whether program j, another committed one, reads a cell that program i stores.
-fn is_blocking(area: &[u32], cells: usize, stored: &Cells, i: usize, j: usize) -> bool
-    requires { ⌜ Slotted cells j (now area) × Holds (now stored) (storesOf cells i (now area)) ⌝ }
-    ensures { λ r. ⌜ r ≡ blocking cells (now (area .entry)) i j ⌝ }
-{
-    if !is_committed(area, cells, j) {
-        return false;
-    }
-    if j == i {
-        return false;
-    }
-    let at = area::slot_start(cells, j);
-    let count = area[at + slot::READ_COUNT] as usize;
-    meets_set(area, at + slot::READS, count, stored)
 }
 
 // The mask with bit j set or left.
@@ -130,37 +80,119 @@ fn committed_mask(area: &[u32], cells: usize, n: usize) -> u64
     mask
 }
 
-// The programs that keep program i back, a bit each; its stored cells are known.
-fn readers_of(area: &[u32], cells: usize, n: usize, stored: &Cells, i: usize) -> u64
-    requires { ⌜ Slots (now area) cells n × Holds (now stored) (storesOf cells i (now area)) ⌝ }
-    ensures { λ r. ⌜ r ≡ maskOf (blocking cells (now (area .entry)) i) n ⌝ }
+// Program `number`, where it is committed, is marked as a reader of the cells that it reads; its bit says its place in the group.
+fn add_reader(area: &[u32], cells: usize, number: usize, bit: usize, readers: &mut Readers)
+    requires { ⌜ Slotted cells number (now area) × (bit < groupSize) × (length (now readers) ≡ maxCells) ⌝ }
+    ensures { λ _. ⌜ now (readers .exit) ≡ withBits (2 ^ bit) (committedReads cells (now (area .entry)) number) (now (readers .entry)) ⌝ }
 {
-    let mut mask: u64 = 0;
-    for j in 0..n {
-        mask = with_bit(mask, j, is_blocking(area, cells, stored, i, j));
+    if !is_committed(area, cells, number) {
+        return;
     }
-    mask
+    let at = area::slot_start(cells, number);
+    let count = area[at + slot::READ_COUNT] as usize;
+    set_bits(area, at + slot::READS, count, 1 << bit, readers);
 }
 
-// The programs that keep program i back, a bit each; 0 where it is not committed, as no one asks then.
-fn blockers_of(area: &[u32], cells: usize, n: usize, i: usize) -> u64
-    requires { ⌜ Slots (now area) cells n × (i < n) ⌝ }
-    ensures { λ r. ⌜ (isCommitted cells (now (area .entry)) i ≡ true → r ≡ maskOf (blocking cells (now (area .entry)) i) n) ⌝ }
+// The programs of the group that read a cell which program i stores.
+fn readers_of(area: &[u32], cells: usize, i: usize, readers: &Readers) -> u8
+    requires { ⌜ Slotted cells i (now area) ⌝ }
+    ensures { λ r. ⌜ r ≡ bitsFor (now (readers .entry)) 0 (storesOf cells i (now (area .entry))) ⌝ }
 {
-    if !is_committed(area, cells, i) {
-        return 0;
-    }
-    let stored = stored_cells(area, cells, i);
-    readers_of(area, cells, n, &stored, i)
+    let at = area::slot_start(cells, i);
+    let count = area[at + slot::STORE_COUNT] as usize;
+    bits_for(area, at + slot::STORES, count, readers)
 }
 
-// Fills in, for each committed program, those that keep it back.
-fn fill_blockers(area: &[u32], cells: usize, n: usize, blockers: &mut [u64; image::Image::PROGRAMS])
-    requires { ⌜ Slots (now area) cells n × (length (now blockers) ≡ maxPrograms) ⌝ }
-    ensures { λ _. ⌜ ((i : ℕ) → i < n → isCommitted cells (now (area .entry)) i ≡ true → getD (now (blockers .exit)) i 0 ≡ maskOf (blocking cells (now (area .entry)) i) n) ⌝ }
+// Marks, for each cell, its readers among the programs from start up to end.
+fn find_readers(area: &[u32], cells: usize, start: usize, end: usize, readers: &mut Readers)
+    requires { ⌜ Slots (now area) cells end × Group start end × (now readers ≡ replicate maxCells 0) ⌝ }
+    ensures { λ _. ⌜ ReadersOf (committedReads cells (now (area .entry))) start end (now (readers .exit)) ⌝ }
 {
-    for i in 0..n {
-        blockers[i] = blockers_of(area, cells, n, i);
+    for number in start..end {
+        add_reader(area, cells, number, number - start, readers);
+    }
+}
+
+// A byte's bits, moved up to bit `start` of a word.
+fn raised(bits: u8, start: usize) -> u64
+    requires { ⌜ start < wordBits ⌝ }
+    ensures { λ r. ⌜ r ≡ (bits * 2 ^ start) % 2 ^ wordBits ⌝ }
+{
+    (bits as u64) << start
+}
+
+// The smallest program of a set that has one.
+fn least(set: u64) -> usize
+    requires { ⌜ (0 < set) × (set < 2 ^ wordBits) ⌝ }
+    ensures { λ r. ⌜ Least set r ⌝ }
+{
+    u64::trailing_zeros(set) as usize
+}
+
+// Adds, to the readers of what each program of a set stores, those of the group that begins at start.
+fn add_blockers(
+    area: &[u32],
+    cells: usize,
+    start: usize,
+    set: u64,
+    readers: &Readers,
+    blockers: &mut [u64; image::Image::PROGRAMS],
+)
+    requires { ⌜ SetIn cells set (now area) × (start < wordBits) × (length (now blockers) ≡ maxPrograms) ⌝ }
+    ensures { λ _. ⌜ Added cells set start (now (area .entry)) (now (readers .entry)) (now (blockers .entry)) (now (blockers .exit)) ⌝ }
+{
+    let mut rest = set;
+    while rest != 0 {
+        let i = least(rest);
+        blockers[i] = blockers[i] | raised(readers_of(area, cells, i, readers), start);
+        rest = rest & rest - 1;
+    }
+}
+
+// The same, where the readers are still to be found.
+fn add_group(
+    area: &[u32],
+    cells: usize,
+    start: usize,
+    end: usize,
+    set: u64,
+    blockers: &mut [u64; image::Image::PROGRAMS],
+)
+    requires { ⌜ Slots (now area) cells end × Group start end × SetIn cells set (now area) × Blockers cells set start (now area) (now blockers) ⌝ }
+    ensures { λ _. ⌜ Blockers cells set end (now (area .entry)) (now (blockers .exit)) ⌝ }
+{
+    let mut readers: Readers = [0; image::Image::CELLS];
+    find_readers(area, cells, start, end, &mut readers);
+    add_blockers(area, cells, start, set, &readers, blockers);
+}
+
+// Where the group that begins with program start ends.
+fn group_end(start: usize, n: usize) -> usize
+    requires { ⌜ start < n ⌝ }
+    ensures { λ r. ⌜ Group start r × (r ≤ n) ⌝ }
+{
+    if n - start < GROUP {
+        return n;
+    }
+    start + GROUP
+}
+
+// Fills in, for each program of a set, the committed programs that read what it stores.
+fn fill_blockers(
+    area: &[u32],
+    cells: usize,
+    n: usize,
+    set: u64,
+    blockers: &mut [u64; image::Image::PROGRAMS],
+)
+    requires { ⌜ Slots (now area) cells n × SetIn cells set (now area) × (now blockers ≡ replicate maxPrograms 0) ⌝ }
+    ensures { λ _. ⌜ Blockers cells set n (now (area .entry)) (now (blockers .exit)) ⌝ }
+{
+    let mut start = 0;
+    while start < n {
+        let end = group_end(start, n);
+        add_group(area, cells, start, end, set, blockers);
+        start = end;
     }
 }
 
@@ -178,26 +210,18 @@ fn committed_count(area: &[u32], cells: usize, n: usize) -> usize
     found
 }
 
-// Whether program i is left and none that is left keeps it back.
-fn is_free(blockers: &[u64; image::Image::PROGRAMS], left: u64, i: usize) -> bool
-    requires { ⌜ i < maxPrograms ⌝ }
-    ensures { λ r. ⌜ r ≡ free (now (blockers .entry)) left i ⌝ }
+// 1 + the first program that is left and that no other that is left keeps back; 0 where there is none.
+fn next_free(blockers: &[u64; image::Image::PROGRAMS], left: u64) -> usize
+    requires { ⌜ left < 2 ^ wordBits ⌝ }
+    ensures { λ r. ⌜ r ≡ first (free (now (blockers .entry)) left) wordBits ⌝ }
 {
-    if left & 1 << i == 0 {
-        return false;
-    }
-    blockers[i] & left == 0
-}
-
-// 1 + the first such program, 0 where there is none.
-fn next_free(blockers: &[u64; image::Image::PROGRAMS], left: u64, n: usize) -> usize
-    requires { ⌜ n ≤ maxPrograms ⌝ }
-    ensures { λ r. ⌜ r ≡ first (λ i. free (now (blockers .entry)) left i) n ⌝ }
-{
-    for i in 0..n {
-        if is_free(blockers, left, i) {
+    let mut rest = left;
+    while rest != 0 {
+        let i = least(rest);
+        if blockers[i] & (left ^ 1 << i) == 0 {
             return i + 1;
         }
+        rest = rest & rest - 1;
     }
     0
 }
@@ -209,13 +233,13 @@ fn pick_all(
     n: usize,
     order: &mut [u8; image::Image::PROGRAMS],
 ) -> usize
-    requires { ⌜ (n ≤ maxPrograms) × (length (now order) ≡ maxPrograms) ⌝ }
-    ensures { λ r. ⌜ (take r (now (order .exit)) ≡ picks n n (now (blockers .entry)) all) × (r ≡ length (picks n n (now (blockers .entry)) all)) × (r ≤ n) × (length (now (order .exit)) ≡ maxPrograms) ⌝ }
+    requires { ⌜ (n ≤ maxPrograms) × (all < 2 ^ wordBits) × (length (now order) ≡ maxPrograms) ⌝ }
+    ensures { λ r. ⌜ Picked n (now (blockers .entry)) all (now (order .exit)) r ⌝ }
 {
     let mut left = all;
     let mut taken: usize = 0;
     while taken < n {
-        let next = next_free(blockers, left, n);
+        let next = next_free(blockers, left);
         if next == 0 {
             return taken;
         }
@@ -244,16 +268,20 @@ fn copy_order(order: &[u8; image::Image::PROGRAMS], n: usize, list: &mut [u32])
     }
 }
 
-// The order and its count, or check 12, where checks 1 to 10 have been made.
-pub fn order_checked(area: &[u32], cells: usize, n: usize, list: &mut [u32]) -> Listed
-    requires { ⌜ Slots (now area) cells n × (n ≤ length (now list)) ⌝ }
+// The order and its count, or check 12, where it is known who keeps whom back.
+fn list_all(
+    area: &[u32],
+    cells: usize,
+    n: usize,
+    all: u64,
+    blockers: &[u64; image::Image::PROGRAMS],
+    list: &mut [u32],
+) -> Listed
+    requires { ⌜ Slots (now area) cells n × CommittedSet cells n all (now area) × Blockers cells all n (now area) (now blockers) × (n ≤ length (now list)) ⌝ }
     ensures { λ r. ⌜ Lists cells n (now (area .entry)) (now (list .entry)) r (now (list .exit)) ⌝ }
 {
-    let mut blockers: [u64; image::Image::PROGRAMS] = [0; image::Image::PROGRAMS];
     let mut taken: [u8; image::Image::PROGRAMS] = [0; image::Image::PROGRAMS];
-    fill_blockers(area, cells, n, &mut blockers);
-    let all = committed_mask(area, cells, n);
-    let found = pick_all(&blockers, all, n, &mut taken);
+    let found = pick_all(blockers, all, n, &mut taken);
     if found != committed_count(area, cells, n) {
         return Listed::Refused(image::Refusal {
             number: image::Refusal::NO_ORDER,
@@ -261,6 +289,17 @@ pub fn order_checked(area: &[u32], cells: usize, n: usize, list: &mut [u32]) -> 
     }
     copy_order(&taken, found, list);
     Listed::Count(found)
+}
+
+// The same, where checks 1 to 10 have been made.
+pub fn order_checked(area: &[u32], cells: usize, n: usize, list: &mut [u32]) -> Listed
+    requires { ⌜ Slots (now area) cells n × (n ≤ length (now list)) ⌝ }
+    ensures { λ r. ⌜ Lists cells n (now (area .entry)) (now (list .entry)) r (now (list .exit)) ⌝ }
+{
+    let mut blockers: [u64; image::Image::PROGRAMS] = [0; image::Image::PROGRAMS];
+    let all = committed_mask(area, cells, n);
+    fill_blockers(area, cells, n, all, &mut blockers);
+    list_all(area, cells, n, all, &blockers, list)
 }
 
 // Checks 1 to 10.

@@ -1,56 +1,44 @@
--- The loop's invariant: the entries of the committed programs below i are their masks. The measure is what is left of n. Assumes nothing.
+-- The loop's invariant: the programs below start are in the entries. The measure is what is left of n. Assumes nothing.
 use mathlib.Core.Path.{_≡_}
-use mathlib.Core.Bool.{true}
-use Prim.Native.Nat.{ℕ, _≤_, _<_, _-_}
+use Prim.Native.Nat.{_≤_, _-_}
 use native.Mathlib.Omega.{arith}
-use lib.ListN.{length, getD, length-set}
 use borrow.Author.Needs.{needs}
-use Rattle.image.specs.Limits.{maxPrograms}
-use Rattle.listing.specs.Listing.{isCommitted}
-use Rattle.base.specs.Masks.{maskOf}
-use Rattle.listing.specs.Masks.{blocking}
-use Rattle.listing.proofs.Turns.{table-more}
+use Rattle.listing.specs.Readers.{Blockers}
+use Rattle.listing.proofs.Readers.{slots-below, blockers-start}
 use Rattle.listing.proofs.fill_blockers.Statement.{statement}
 use Rattle.listing.proofs.fill_blockers.Tie as tie
 
 abbrev Inv-loop : tie.InvT-loop
-Inv-loop area cells n blockers₀ i₀ blockers i =
-    (i ≤ n) × (length blockers ≡ maxPrograms) × ((k : ℕ) → k < i → isCommitted cells area k ≡ true → getD blockers k 0 ≡ maskOf (blocking cells area k) n)
+Inv-loop area cells n set blockers₀ start₀ blockers start = (start ≤ n) × Blockers cells set start area blockers
 
 abbrev μ-loop : tie.MeasureT-loop
-μ-loop area cells n blockers₀ i₀ blockers i = n - i
+μ-loop area cells n set blockers₀ start₀ blockers start = n - start
 
 loop-holds : tie.Need-loop-holds Inv-loop μ-loop
-loop-holds c = (search needs, c .before .pre .1, λ k h e. absurd (omega arith))
+loop-holds c =
+    let s = c .before in
+    (search needs, rw (s .pre .2) (blockers-start (s .args .cells) (s .args .set) (s .args .area .now) (s .pre .1 .bounded)))
 
-blockers-of-requires : tie.Need-blockers-of-requires Inv-loop μ-loop
-blockers-of-requires c κs = let s = c .before .before .before in (s .pre .0, omega arith)
+group-end-requires : tie.Need-group-end-requires Inv-loop μ-loop
+group-end-requires c κs = search needs
 
-mul-blockers : tie.Need-mul-blockers Inv-loop μ-loop
-mul-blockers c = search needs
-
-element-write-blockers : tie.Need-element-write-blockers Inv-loop μ-loop
-element-write-blockers c = omega (arith, c .before .before .before .before .pre .0 .few)
-
-add-i : tie.Need-add-i Inv-loop μ-loop
-add-i c = search needs
+add-group-requires : tie.Need-add-group-requires Inv-loop μ-loop
+add-group-requires c κs =
+    let s = c .before .before .before .before .before in
+    let e = c .before .group-end .ensures in
+    (slots-below (s .args .cells) (s .args .n) (s .args .area .now) _ (s .pre .0) (e .1), e .0, s .pre .1, c .before .before .before .loop .inv .1)
 
 loop-less : tie.Need-loop-less Inv-loop μ-loop
-loop-less c = search needs
+loop-less c = omega (arith, c .before .before .group-end .ensures .0 .not-empty)
 
 loop-again : tie.Need-loop-again Inv-loop μ-loop
-loop-again c =
-    let l = c .before .before .loop in
-    let s = c .before .before .before .before in
-    let a = s .args in (
-      omega arith,
-      simp length-set (l .inv .1),
-      table-more (isCommitted (a .cells) (a .area .now)) (λ k. maskOf (blocking (a .cells) (a .area .now) k) (a .n)) (l .blockers) (l .i) (c .blockers-of .result)
-          (omega (arith, l .inv .1, s .pre .0 .few)) (l .inv .2) (c .blockers-of .ensures),
-    )
+loop-again c = (c .before .before .group-end .ensures .1, c .add-group .ensures)
 
 returns : tie.Need-returns Inv-loop μ-loop
-returns c = λ i h e. c .before .loop .inv .2 i (omega arith) e
+returns c =
+    let l = c .before .loop in
+    let e : l .start ≡ c .before .before .before .args .n = omega arith in
+    rw e at (l .inv .1)
 
 pub fill-blockers-spec : {M : Type 1} → statement M
 fill-blockers-spec =
@@ -59,10 +47,8 @@ fill-blockers-spec =
     Inv-loop
     μ-loop
     loop-holds
-    blockers-of-requires
-    mul-blockers
-    element-write-blockers
-    add-i
+    group-end-requires
+    add-group-requires
     loop-less
     loop-again
     returns)
