@@ -1,7 +1,7 @@
 -- Checks 1 to 7: what an area that passes has, in plain facts. Assumes nothing.
 use Prim.Native.Nat.{ℕ, _+_, _≤_, _<_}
-use mathlib.Core.Path.{_≡_, refl, sym, _∙_}
-use mathlib.Core.Bool.{Bool, true, _&&_}
+use mathlib.Core.Path.{_≡_, refl, sym}
+use mathlib.Core.Bool.{true, _&&_}
 use mathlib.Core.List.{List}
 use native.Mathlib.Omega.{arith}
 use lib.ListN.{length, getD}
@@ -20,9 +20,9 @@ use Rattle.image.proofs.Refusing.{goes-on, none-fails, none-after, first-passes
 use Rattle.slot.specs.declared.ListKind.{ListKind}
 use Rattle.slot.specs.declared.ListKind.the-variants.{Reads, Stores}
 use Rattle.slot.specs.States.{lastState}
-use Rattle.slot.specs.Layout.{stateWord, listWords, countWord, firstWord, slotWords}
+use Rattle.slot.specs.Layout.{stateWord, listWords, countWord, firstWord}
 use Rattle.slot.specs.Log.{Log, cellsOf, layout, Fits}
-use Rattle.slot.proofs.ListKinds.{each-kind, count-low, list-lies}
+use Rattle.slot.proofs.ListKinds.{each-kind, list-lies}
 use Rattle.slot.proofs.Slots.{layout-state, layout-count, layout-list}
 use Rattle.area.specs.declared.MarkKind.{MarkKind}
 use Rattle.area.specs.declared.MarkKind.the-variants.{Write, Read}

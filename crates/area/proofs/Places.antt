@@ -10,10 +10,10 @@ use Rattle.base.specs.Words.{words}
 use Rattle.slot.specs.Layout.{listWords}
 use Rattle.slot.specs.declared.ListKind.{ListKind}
 use Rattle.slot.specs.declared.ListKind.the-variants.{Stores}
-use Rattle.slot.proofs.ListKinds.{count-low, list-lies}
+use Rattle.slot.proofs.ListKinds.{list-lies}
 use Rattle.area.specs.declared.MarkKind.{MarkKind}
 use Rattle.area.specs.declared.Span.{Span}
-use Rattle.area.specs.Layout.{marksAt, slotStart, countAt, listAt, valuesAt, spanOf, listOf, valuesOf}
+use Rattle.area.specs.Layout.{marksAt, countAt, valuesAt, spanOf, listOf, valuesOf}
 use Rattle.area.specs.Marks.{storedBy, committed}
 use Rattle.area.specs.Checks.{allBelow, listGood, HasSlot, Slotted, Names, Storing}
 use Rattle.area.proofs.Views.{marks-low}

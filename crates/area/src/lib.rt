@@ -1,10 +1,9 @@
 // The work area: where its words lie, its checks, and what its marks say (document 01, "The work area").
 ghost use mathlib.Core.Path.{_≡_};
-ghost use mathlib.Core.Bool.{cond};
-ghost use Prim.Native.Nat.{_+_, _^_, _<_, _≤_};
+ghost use Prim.Native.Nat.{_+_, _<_, _≤_};
 ghost use lib.ListN.{length};
 ghost use Rattle.base.specs.Words.{words};
-ghost use Rattle.base.specs.Masks.{maskOf, wordBits};
+ghost use Rattle.base.specs.Masks.{maskOf};
 ghost use Rattle.image.specs.Limits.{maxPrograms, maxCells};
 ghost use Rattle.area.specs.Layout.{areaWords, marksAt, slotStart, spanOf, listOf, stateOf, inGroup, withState};
 ghost use Rattle.area.specs.Marks.{lower, reserve, earlier, hit, depends, storedBy, committed};
@@ -192,17 +191,6 @@ pub fn states_from(area: &[u32], cells: usize, n: usize, least: u32) -> bool
     true
 }
 
-// The mask with bit j set or left.
-fn with_bit(mask: u64, j: usize, set: bool) -> u64
-    requires { ⌜ (j < wordBits) × (mask < 2 ^ j) ⌝ }
-    ensures { λ r. ⌜ r ≡ mask + cond set (2 ^ j) 0 ⌝ }
-{
-    if set {
-        return mask | 1 << j;
-    }
-    mask
-}
-
 // The programs of a group, a bit each.
 pub fn members(area: &[u32], cells: usize, n: usize, group: slot::Group) -> u64
     requires { ⌜ Measured cells n (now area) ⌝ }
@@ -211,7 +199,7 @@ pub fn members(area: &[u32], cells: usize, n: usize, group: slot::Group) -> u64
     let mut mask: u64 = 0;
     for k in 0..n {
         let state = state(area, cells, k);
-        mask = with_bit(mask, k, slot::is_in(group, state));
+        mask = masks::with_bit(mask, k, slot::is_in(group, state));
     }
     mask
 }

@@ -6,6 +6,5 @@ pub mod Numbers
 pub mod Parts
 pub mod Somes
 pub mod Tables
-pub mod Unique
 pub mod Walks
 pub mod Masks

@@ -2,5 +2,5 @@ pub mod Cases
 pub mod Checks
 pub mod Nexts
 pub mod Sources
-pub mod Taken
+pub mod Chosen
 pub mod Unique

@@ -6,7 +6,7 @@ use mathlib.Core.List.{List, [], _∷_}
 use Prim.Native.Nat.{ℕ, zero, suc, _+_, _≤_, _<_}
 use native.Mathlib.Omega.{arith}
 use lib.Dec.{leb, eqb}
-use lib.ListN.{length, getD, length-append, List·getD-append}
+use lib.ListN.{length, length-append, List·getD-append}
 use borrow.Author.Tests.{leb-true}
 use Rattle.base.specs.Words.{count}
 use Rattle.base.proofs.Bools.{and-left, and-right}
@@ -19,7 +19,9 @@ use Rattle.image.proofs.Laws.{Accepted, accepted, part-short, part-whole}
 use Rattle.writer.specs.Picked.{pick, picked, allOf}
 use Rattle.writer.proofs.Programs.{picked-count, picked-at}
 use Rattle.writer.proofs.Good.{Fine, All, all-append, image-count, image-rule, image-part, image-good, image-programs}
-use Rattle.carry.specs.Next.{isCarried, carriedCount, carriedOf, nextPrograms, nextImage, nextRefusal}
+use Rattle.slot.specs.declared.Group.the-variants.{Carried}
+use Rattle.area.specs.Layout.{inGroup}
+use Rattle.carry.specs.Next.{carriedCount, carriedOf, nextPrograms, nextImage, nextRefusal}
 use Rattle.carry.proofs.Checks.{NextShows, next-shows}
 
 -- ---- the programs of a good image are good programs
@@ -59,7 +61,7 @@ module _ (image t a fresh out : List ℕ) (none : nextRefusal image t a fresh ou
 
   carried-many : length (carriedOf (length t) image a) ≡ carriedCount (length t) (countOf image) a
   unfolding carriedCount
-  carried-many = picked-count (isCarried (length t) a) image (countOf image)
+  carried-many = picked-count (inGroup Carried (length t) a) image (countOf image)
 
   many : length programs ≡ carriedCount (length t) (countOf image) a + countOf fresh
   unfolding nextPrograms
@@ -74,7 +76,7 @@ module _ (image t a fresh out : List ℕ) (none : nextRefusal image t a fresh ou
   unfolding nextPrograms
   fine =
       all-append (carriedOf (length t) image a) (allOf fresh)
-      (picked-fine (isCarried (length t) a) image (accepted image (shown .good)) (countOf image) (omega arith))
+      (picked-fine (inGroup Carried (length t) a) image (accepted image (shown .good)) (countOf image) (omega arith))
       (picked-fine (λ k. true) fresh (accepted fresh (shown .good-fresh)) (countOf fresh) (omega arith))
 
   -- it is itself a good image
@@ -98,11 +100,11 @@ module _ (image t a fresh out : List ℕ) (none : nextRefusal image t a fresh ou
   next-programs = image-programs (ruleByte fresh) programs few fine
 
   -- by number: a carried program's new number is that of the carried programs before it
-  pub next-carried-at : (k : ℕ) → k < countOf image → isCarried (length t) a k ≡ true
-      → partOf (nextImage (length t) image a fresh) (count (isCarried (length t) a) k) ≡ partOf image k
+  pub next-carried-at : (k : ℕ) → k < countOf image → inGroup Carried (length t) a k ≡ true
+      → partOf (nextImage (length t) image a fresh) (count (inGroup Carried (length t) a) k) ≡ partOf image k
   unfolding carriedCount nextImage nextPrograms
   next-carried-at k l e =
-      let carried = isCarried (length t) a in
+      let carried = inGroup Carried (length t) a in
       let h : count carried k < count carried (countOf image) = count-below carried (countOf image) k l e in
       image-part (ruleByte fresh) programs few fine (count carried k) (omega (arith, many))
       ∙ List·getD-append (carriedOf (length t) image a) (allOf fresh) [] (count carried k) (omega (arith, carried-many))

@@ -16,7 +16,9 @@ use Rattle.writer.specs.Joined.{joined, imageOf}
 use Rattle.writer.specs.Picked.{picked, allOf}
 use Rattle.writer.specs.Writing.{Source}
 use Rattle.writer.proofs.Programs.{length-joined, length-image, picked-count, picked-ext, picked-short}
-use Rattle.carry.specs.Next.{isCarried, carriedCount, carriedOf, nextPrograms, nextImage}
+use Rattle.slot.specs.declared.Group.the-variants.{Carried}
+use Rattle.area.specs.Layout.{inGroup}
+use Rattle.carry.specs.Next.{carriedCount, carriedOf, nextPrograms, nextImage}
 use Rattle.carry.specs.Sources.{Sources, imageFrom}
 
 module _ {image : List ℕ} {n mask : ℕ} {fresh : List ℕ} {m programs : ℕ} (s : Sources image n mask fresh m programs) {all : ℕ} (all-is : all ≡ maskOf (λ k. true) m) where
@@ -45,13 +47,13 @@ module _ {image : List ℕ} {n mask : ℕ} {fresh : List ℕ} {m programs : ℕ}
   from-small = omega (arith, from-length, s .few, s .old .few, s .new .few, picked-short (s .old) n (omega arith), picked-short all-source m (omega arith))
 
 -- the mask is that of the carried programs
-module _ (T : ℕ) (a image : List ℕ) {n mask : ℕ} (n-is : n ≡ countOf image) (mask-is : mask ≡ maskOf (isCarried T a) n) where
+module _ (T : ℕ) (a image : List ℕ) {n mask : ℕ} (n-is : n ≡ countOf image) (mask-is : mask ≡ maskOf (inGroup Carried T a) n) where
   pub carried-counted : count (hasBit mask) n ≡ carriedCount T (countOf image) a
   unfolding carriedCount
-  carried-counted = rw (mask-is, ← n-is) (count-ext _ _ n (mask-has (isCarried T a) n))
+  carried-counted = rw (mask-is, ← n-is) (count-ext _ _ n (mask-has (inGroup Carried T a) n))
 
   carried-programs : picked (hasBit mask) image n ≡ carriedOf T image a
-  carried-programs = rw (mask-is, ← n-is) (picked-ext _ _ image n (mask-has (isCarried T a) n))
+  carried-programs = rw (mask-is, ← n-is) (picked-ext _ _ image n (mask-has (inGroup Carried T a) n))
 
   pub from-is : (fresh : List ℕ) (m : ℕ) → m ≡ countOf fresh → imageFrom image n mask fresh m ≡ nextImage T image a fresh
   unfolding imageFrom nextImage nextPrograms

@@ -2,7 +2,7 @@
 use mathlib.Core.List.{List}
 use Prim.Native.Nat.{ℕ}
 use denote.Ref.{now}
-use Rattle.base.proofs.Unique.{Unique}
+use Rattle.base.specs.Unique.{Unique}
 use Rattle.carry.specs.declared.Next.{Next}
 use Rattle.carry.proofs.write_next.Kinds as write-next-kinds
 use Rattle.carry.proofs.write_next.Reads as write-next

@@ -1,7 +1,6 @@
 -- Document 01, "Next image": "the carried programs in number order, then the fresh image's programs, with the fresh image's rule byte." And what the
 -- call answers and leaves. Assumes nothing.
 use mathlib.Core.Path.{_≡_}
-use mathlib.Core.Bool.{Bool}
 use mathlib.Core.List.{List, _++_}
 use Prim.Native.Nat.{ℕ, _+_}
 use lib.Dec.{leb}
@@ -20,15 +19,12 @@ use Rattle.carry.specs.declared.Next.the-variants.{Refused, Length}
 use Rattle.writer.specs.Joined.{imageOf}
 use Rattle.writer.specs.Picked.{picked, allOf}
 
--- program k is carried; how many are
-abbrev pub isCarried : ℕ → List ℕ → ℕ → Bool
-isCarried = inGroup Carried
-
+-- the carried programs, and how many there are
 unfoldable pub carriedCount : ℕ → ℕ → List ℕ → ℕ
-carriedCount T n a = count (isCarried T a) n
+carriedCount T n a = count (inGroup Carried T a) n
 
 abbrev pub carriedOf : ℕ → List ℕ → List ℕ → List (List ℕ)
-carriedOf T image a = picked (isCarried T a) image (countOf image)
+carriedOf T image a = picked (inGroup Carried T a) image (countOf image)
 
 unfoldable pub nextPrograms : ℕ → List ℕ → List ℕ → List ℕ → List (List ℕ)
 nextPrograms T image a fresh = carriedOf T image a ++ allOf fresh

@@ -18,7 +18,7 @@ fn next_length(image: &[u8], n: usize, mask: u64, fresh: &[u8], m: usize, progra
     ensures { λ r. ⌜ r ≡ length (imageFrom (now (image .entry)) n mask (now (fresh .entry)) m) ⌝ }
 {
     let old = writer::taken_bytes(image, n, mask);
-    let new = writer::taken_bytes(fresh, m, writer::all(m));
+    let new = writer::taken_bytes(fresh, m, masks::all(m));
     image::head_bytes(programs) + old + new
 }
 
@@ -35,7 +35,7 @@ pub fn write_next(
     requires { ⌜ Sources (now image) n mask (now fresh) m programs × (length (imageFrom (now image) n mask (now fresh) m) ≤ length (now out)) ⌝ }
     ensures { λ r. ⌜ Wrote (now (out .entry)) 0 (imageFrom (now (image .entry)) n mask (now (fresh .entry)) m) (now (out .exit)) r ⌝ }
 {
-    let all = writer::all(m);
+    let all = masks::all(m);
     let to = writer::put_header(out, programs, image::rule(fresh));
     let start = writer::Place {
         to,
@@ -91,7 +91,7 @@ pub fn next_image(image: &[u8], table: &[u32], area: &[u32], fresh: &[u8], out: 
     let n = image::count(image);
     let m = image::count(fresh);
     let mask = area::members(area, table.len(), n, slot::Group::Carried);
-    let programs = writer::taken_count(n, mask) + m;
+    let programs = masks::count(mask, n) + m;
     let large = size_refusal(image, n, mask, fresh, m, programs, out);
     if large.number != 0 {
         return Next::Refused(large);

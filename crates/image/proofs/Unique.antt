@@ -3,7 +3,7 @@ use mathlib.Core.Path.{sym, _∙_}
 use mathlib.Core.List.{List}
 use Prim.Native.Nat.{ℕ}
 use denote.Ref.{RefT, now, ptr}
-use Rattle.base.proofs.Unique.{Unique}
+use Rattle.base.specs.Unique.{Unique}
 use Rattle.image.proofs.Image.header.Kinds as header-kinds
 use Rattle.image.proofs.Image.header.Reads as header
 use Rattle.image.proofs.count.Kinds as count-kinds

@@ -3,7 +3,7 @@ use mathlib.Core.Path.{_≡_, refl}
 use mathlib.Core.List.{List, [], _∷_, _++_, map}
 use Prim.Native.Nat.{ℕ}
 use lib.ListN.{replicate}
-use Rattle.image.specs.Refusals.{wrongState, noRoom, noOrder, refusing}
+use Rattle.image.specs.Refusals.{refusing}
 use Rattle.image.specs.Assembler.{image}
 use Rattle.slot.specs.States.{gathered, rejected, committed, carried}
 use Rattle.slot.specs.Log.{layout}
@@ -49,14 +49,14 @@ abbrev Lists : List (List ℕ) → Listed → List ℕ → Type 0
 Lists ss answer entries = (orderAnswer (batch ss) table (area ss) list ≡ answer) × (orderList (batch ss) table (area ss) list ≡ entries)
 
 -- each of two reads what the other stores
-knot-of-two : Lists (slot committed (x ∷ []) (y ∷ []) ∷ slot committed (y ∷ []) (x ∷ []) ∷ []) (Refused (refusing noOrder)) list
+knot-of-two : Lists (slot committed (x ∷ []) (y ∷ []) ∷ slot committed (y ∷ []) (x ∷ []) ∷ []) (Refused (refusing 12)) list
 unfolding opened
 knot-of-two = (refl, refl)
 
 -- each of three reads what the one before it stores; a fourth that could be listed does not help
 knot-of-three : Lists
     (slot committed (z ∷ []) (x ∷ []) ∷ slot committed [] [] ∷ slot committed (x ∷ []) (y ∷ []) ∷ slot committed (y ∷ []) (z ∷ []) ∷ [])
-    (Refused (refusing noOrder)) list
+    (Refused (refusing 12)) list
 unfolding opened
 knot-of-three = (refl, refl)
 
@@ -86,12 +86,12 @@ case-7 = (refl, refl)
 
 -- a state that is not an end is looked at before the list's length, and that before the knot
 not-settled : Lists (slot gathered [] [] ∷ slot committed [] [] ∷ slot committed [] [] ∷ slot committed [] [] ∷ slot committed [] [] ∷ [])
-    (Refused (refusing wrongState)) list
+    (Refused (refusing 9)) list
 unfolding opened
 not-settled = (refl, refl)
 
 short-list : Lists
     (slot committed (x ∷ []) (y ∷ []) ∷ slot committed (y ∷ []) (x ∷ []) ∷ slot committed [] [] ∷ slot committed [] [] ∷ slot committed [] [] ∷ [])
-    (Refused (refusing noRoom)) list
+    (Refused (refusing 10)) list
 unfolding opened
 short-list = (refl, refl)

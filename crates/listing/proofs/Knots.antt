@@ -14,16 +14,9 @@ use Rattle.base.proofs.Bools.{known, clash}
 use Rattle.base.proofs.Counts.{count-le, count-some}
 use Rattle.base.proofs.Members.{has-cases, has-at, has-tail, has-none}
 use Rattle.base.proofs.Numbers.{first-is}
-use Rattle.listing.specs.Order.{ready, without, grow, listed}
+use Rattle.listing.specs.Order.{ready, without, grow, listed, Ordered, Order}
 use Rattle.listing.proofs.Taken.{is-without, count-without, ready-is}
-use Rattle.listing.proofs.Whole.{Ordered, listed-members, listed-ordered, length-listed}
-
--- ---- an order of the programs left: each of them and no other, each before those that store what it reads
-
-pub record Order (n : ℕ) (reads stores : ℕ → List ℕ) (left : ℕ → Bool) (o : List ℕ) : Type 0 where
-  pub all-there : (j : ℕ) → j < n → left j ≡ true → has j o ≡ true
-  pub only-left : (j : ℕ) → has j o ≡ true → (j < n) × (left j ≡ true)
-  pub in-order : Ordered reads stores o
+use Rattle.listing.proofs.Whole.{listed-members, listed-ordered, length-listed}
 
 -- the place of j in the list
 unfoldable placeAt : ℕ → List ℕ → ℕ

@@ -12,15 +12,16 @@ use lib.ListN.{getD}
 use lib.Pow.{pow-pos, pow-lt}
 use borrow.Author.Tests.{eqb-true, eqb-false, eq-eqb, ne-eqb, ltb-true, ltb-false}
 use Rattle.base.specs.Words.{first}
-use Rattle.base.specs.Masks.{wordBits, hasBit, maskOf}
+use Rattle.base.specs.Masks.{wordBits, hasBit, maskOf, Least}
 use Rattle.base.proofs.Bools.{known, clash, and-both, nots}
 use Rattle.base.proofs.Numbers.{below, none-first}
 use Rattle.base.proofs.Walks.{first-at}
 use Rattle.base.proofs.Masks.{differs, mask-lt, mask-ext, xor-masks, one-bit, mask-has, has-mask, oneBit, shifted, mask-none, mask-append}
 use Rattle.image.specs.Limits.{maxPrograms}
-use Rattle.listing.specs.Listing.{isCommitted}
+use Rattle.slot.specs.declared.Group.the-variants.{Committed}
+use Rattle.area.specs.Layout.{inGroup}
 use Rattle.listing.specs.Order.{without}
-use Rattle.listing.specs.Masks.{Least, free, CommittedSet}
+use Rattle.listing.specs.Masks.{free, CommittedSet}
 
 pub bit-out : (p : ℕ → Bool) (n i : ℕ) → i < n → p i ≡ true → bitXor (maskOf p n) (2 ^ i) ≡ maskOf (without i p) n
 unfolding without differs
@@ -52,8 +53,8 @@ pub all-bounded : (T n all : ℕ) (a : List ℕ) → n ≤ maxPrograms → Commi
 all-bounded T n all a few e = go (below n wordBits (omega arith))
   where
     go : (n ≡ wordBits) ⊎ (n < wordBits) → all < 2 ^ wordBits
-    go (inl q) = rw (e .all-are) (omega (arith, mask-lt (isCommitted T a) n, ap (λ (k : ℕ). 2 ^ k) q))
-    go (inr q) = rw (e .all-are) (omega (arith, mask-lt (isCommitted T a) n, pow-lt {i = n} {j = wordBits} q))
+    go (inl q) = rw (e .all-are) (omega (arith, mask-lt (inGroup Committed T a) n, ap (λ (k : ℕ). 2 ^ k) q))
+    go (inr q) = rw (e .all-are) (omega (arith, mask-lt (inGroup Committed T a) n, pow-lt {i = n} {j = wordBits} q))
 
 -- ---- a part of a set, from which one is taken after another
 

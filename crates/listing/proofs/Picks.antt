@@ -9,17 +9,19 @@ use lib.Dec.{eqb}
 use lib.Bits.{bitXor}
 use lib.ListN.{getD, length, take, drop}
 use borrow.Author.Tests.{eq-eqb, ne-eqb}
-use Rattle.base.specs.Words.{first, meets}
+use Rattle.base.specs.Words.{first, meets, count}
 use Rattle.base.proofs.Bools.{known, and-both, and-same}
 use Rattle.base.proofs.Members.{meets-swap}
 use Rattle.base.proofs.Numbers.{first-is, first-some, first-unique, first-ext}
 use Rattle.image.specs.Limits.{maxPrograms}
-use Rattle.image.specs.Refusals.{noOrder, refusing}
-use Rattle.area.specs.Layout.{readsOf, storesOf}
+use Rattle.image.specs.Refusals as refusal
+use Rattle.slot.specs.declared.Group.the-variants.{Committed}
+use Rattle.area.specs.Layout.{inGroup, readsOf, storesOf}
 use Rattle.listing.specs.declared.Listed.the-variants.{Refused, Count}
 use Rattle.listing.specs.Order.{blocks, ready, without, grow, listed}
-use Rattle.listing.specs.Listing.{isCommitted, committedCount, orderOf, orderExists, listedAnswer, listedList, Lists}
+use Rattle.listing.specs.Listing.{committedCount, orderOf, orderExists, listedAnswer, listedList, Lists}
 use Rattle.base.specs.Masks.{wordBits, hasBit, maskOf}
+use Rattle.base.proofs.Counts.{count-ext}
 use Rattle.base.proofs.Masks.{mask-lt, and-masks, mask-zero, mask-has}
 use Rattle.listing.specs.Masks.{free, picks, CommittedSet}
 use Rattle.listing.specs.Readers.{committedReads, readsStored, Blockers}
@@ -89,15 +91,19 @@ module _ (T n : ℕ) (a : List ℕ) (blockers : List ℕ) (all : ℕ)
   unfolding readsStored committedReads orderOf
   picked =
       rw (whole .all-are)
-      (picks-listed n (λ k. readsOf T k a) (λ k. storesOf T k a) (isCommitted T a) blockers
-      (λ i l e. masks .entry i (rw (whole .all-are) (mask-has (isCommitted T a) n i l ∙ e)))
-      few n (isCommitted T a) (λ i h. h))
+      (picks-listed n (λ k. readsOf T k a) (λ k. storesOf T k a) (inGroup Committed T a) blockers
+      (λ i l e. masks .entry i (rw (whole .all-are) (mask-has (inGroup Committed T a) n i l ∙ e)))
+      few n (inGroup Committed T a) (λ i h. h))
 
-  module _ (r k : ℕ) (list : List ℕ) (many : r ≡ length (picks n blockers all)) (counted : k ≡ committedCount T n a) where
-    pub no-order : (r ≡ k → ⊥) → Lists T n a list (Refused (refusing noOrder)) list
+  all-counted : count (hasBit all) n ≡ committedCount T n a
+  unfolding committedCount
+  all-counted = rw (whole .all-are) (count-ext _ _ n (mask-has (inGroup Committed T a) n))
+
+  module _ (r k : ℕ) (list : List ℕ) (many : r ≡ length (picks n blockers all)) (counted : k ≡ count (hasBit all) n) where
+    pub no-order : (r ≡ k → ⊥) → Lists T n a list (Refused refusal.noOrder) list
     unfolding listedAnswer listedList orderExists
     no-order h =
-        let e : eqb (length (orderOf T n a)) (committedCount T n a) ≡ false = ne-eqb _ _ (λ z. h (many ∙ ap length picked ∙ z ∙ sym counted)) in
+        let e : eqb (length (orderOf T n a)) (committedCount T n a) ≡ false = ne-eqb _ _ (λ z. h (many ∙ ap length picked ∙ z ∙ sym (counted ∙ all-counted))) in
         record { answer = rw e; entries = rw e }
 
     pub whole-order : (order out : List ℕ) → r ≡ k → take r order ≡ picks n blockers all → out ≡ take r order ++ drop r list
@@ -105,5 +111,5 @@ module _ (T n : ℕ) (a : List ℕ) (blockers : List ℕ) (all : ℕ)
     unfolding listedAnswer listedList orderExists
     whole-order order out h t o =
         let l : r ≡ length (orderOf T n a) = many ∙ ap length picked in
-        let e : eqb (length (orderOf T n a)) (committedCount T n a) ≡ true = eq-eqb _ _ (sym l ∙ h ∙ counted) in
+        let e : eqb (length (orderOf T n a)) (committedCount T n a) ≡ true = eq-eqb _ _ (sym l ∙ h ∙ (counted ∙ all-counted)) in
         record { answer = rw (e, ← l); entries = rw (e, ← l) (o ∙ ap (λ (x : List ℕ). x ++ drop r list) (t ∙ picked)) }

@@ -1,5 +1,5 @@
 -- The readers of each cell among a group of programs: a turn of each loop, and what the bits say in the end. Assumes nothing.
-use mathlib.Core.Path.{_≡_, refl, sym, _∙_, ap}
+use mathlib.Core.Path.{_≡_, refl, sym, _∙_, ap, subst}
 use mathlib.Core.Logic.{_⊎_, inl, inr}
 use mathlib.Core.Bool.{Bool, true, false, cond, _||_}
 use mathlib.Core.List.{List, [], _∷_}
@@ -11,43 +11,49 @@ use lib.ListN.{length, getD, set, replicate, length-set, getD-replicate}
 use lib.Seq.{getD-set-same, getD-set-other}
 use borrow.Author.Tests.{eqb-true, eqb-false, eq-eqb}
 use Rattle.base.specs.Words.{has, meets, words}
-use Rattle.base.specs.Masks.{wordBits, hasBit, maskOf}
+use Rattle.base.specs.Masks.{wordBits, hasBit, maskOf, Least}
 use Rattle.base.proofs.Bools.{known, clash}
 use Rattle.base.proofs.Parts.{words-has}
 use Rattle.base.proofs.Walks.{words-next, words-end}
 use Rattle.base.proofs.Masks.{mask-lt, mask-start, mask-next, mask-ext, mask-none, or-masks, bit-set, shifted-byte, bits-in}
 use Rattle.image.specs.Limits.{maxPrograms, maxCells}
-use Rattle.slot.specs.Layout.{readCount, firstRead}
-use Rattle.area.specs.Layout.{slotStart, readCountAt, storeCountAt, readsAt, storesAt, readsOf, storesOf}
+use Rattle.slot.specs.declared.ListKind.{ListKind}
+use Rattle.slot.specs.declared.ListKind.the-variants.{Reads, Stores}
+use Rattle.slot.specs.declared.Group.the-variants.{Committed}
+use Rattle.slot.proofs.ListKinds.{list-lies}
+use Rattle.area.specs.declared.Span.{Span}
+use Rattle.area.specs.Layout.{countAt, listAt, spanOf, inGroup, listOf, storesOf}
 use Rattle.area.specs.Checks.{Slotted}
-use Rattle.listing.specs.Listing.{isCommitted}
-use Rattle.listing.specs.Masks.{Least, Slots, CommittedSet}
-use Rattle.listing.specs.Readers.{groupSize, withBits, bitsFor, committedReads, readsStored, CellsAt, Group, ReadersOf, SetIn, Added, Blockers}
+use Rattle.listing.specs.Masks.{Slots, CommittedSet}
+use Rattle.listing.specs.Readers.{octetSize, withBits, bitsFor, committedReads, readsStored, CellsAt, Octet, ReadersOf, SetIn, Added, Blockers}
 use Rattle.listing.proofs.Masks.{bit-below, all-bounded, Within, within-whole, none-in, member-few, within-in, within-out, within-next}
 
 -- ---- the cells of a program
 
 module _ (T k : ℕ) (a : List ℕ) (s : Slotted T k a) where
-  pub reads-at : CellsAt (readsAt T k) (getD a (readCountAt T k) 0) a
-  reads-at = record { lies = omega (arith, s .lies, s .reads-few); in-table = λ i h. omega (arith, s .reads-in i h, s .cells-few) }
-
-  pub stores-at : CellsAt (storesAt T k) (getD a (storeCountAt T k) 0) a
-  stores-at = record { lies = omega (arith, s .lies, s .stores-few); in-table = λ i h. omega (arith, s .stores-in i h, s .cells-few) }
+  -- where the list of a kind lies, as the code looks
+  pub list-at : (l : ListKind) (r : Span) → r ≡ spanOf l T k a → CellsAt (r .at) (r .count) a
+  list-at l r e =
+      subst (λ (x : Span). CellsAt (x .at) (x .count) a) (sym e)
+      (record {
+        lies = omega (arith, s .lies .lies, s .few l, list-lies l .1);
+        in-table = λ i h. omega (arith, s .inside l i h, s .lies .cells-few);
+      })
 
   stores-below : (c : ℕ) → has c (storesOf T k a) ≡ true → c < maxCells
-  unfolding storesOf
-  stores-below c h = let w = words-has (storesAt T k) (getD a (storeCountAt T k) 0) a c h in omega (arith, s .stores-in (w .0) (w .1), s .cells-few, w .2)
+  unfolding listOf
+  stores-below c h =
+      let w = words-has (listAt Stores T k) (getD a (countAt Stores T k) 0) a c h in omega (arith, s .inside Stores (w .0) (w .1), s .lies .cells-few, w .2)
 
   module _ (readers : List ℕ) where
-    pub no-reads : (bits : ℕ) → isCommitted T a k ≡ false → withBits bits (committedReads T a k) readers ≡ readers
+    pub no-reads : (bits : ℕ) → inGroup Committed T a k ≡ false → withBits bits (committedReads T a k) readers ≡ readers
     unfolding committedReads withBits
     no-reads bits e = rw e
 
-    -- where k's slot begins at `at`, as the code looks
-    pub some-reads : (bit at : ℕ) → bit < groupSize → at ≡ slotStart T k → isCommitted T a k ≡ true
-        → withBits ((1 * 2 ^ bit) % 2 ^ 8) (words (at + firstRead) (getD a (at + readCount) 0) a) readers ≡ withBits (2 ^ bit) (committedReads T a k) readers
-    unfolding committedReads readsOf
-    some-reads bit at h e d = rw (shifted-byte bit h, e, d)
+    pub some-reads : (bit : ℕ) (r : Span) → bit < octetSize → r ≡ spanOf Reads T k a → inGroup Committed T a k ≡ true
+        → withBits ((1 * 2 ^ bit) % 2 ^ 8) (words (r .at) (r .count) a) readers ≡ withBits (2 ^ bit) (committedReads T a k) readers
+    unfolding committedReads listOf
+    some-reads bit r h e d = rw (shifted-byte bit h, e, d)
 
 pub slots-below : (T n : ℕ) (a : List ℕ) (m : ℕ) → Slots a T n → m ≤ n → Slots a T m
 slots-below T n a m s h = record { few = omega (arith, s .few); slotted = λ k l. s .slotted k (omega arith) }
@@ -57,7 +63,7 @@ pub committed-in : (T n all : ℕ) (a : List ℕ) → Slots a T n → CommittedS
 committed-in T n all a s e =
     record {
       bounded = all-bounded T n all a (s .few) e;
-      slotted = λ i d. s .slotted i (bit-below n (maskOf (isCommitted T a) n) i (mask-lt (isCommitted T a) n) (rw (e .all-are) at d));
+      slotted = λ i d. s .slotted i (bit-below n (maskOf (inGroup Committed T a) n) i (mask-lt (inGroup Committed T a) n) (rw (e .all-are) at d));
     }
 
 -- ---- the loops over a list: k of its cells are passed
@@ -180,7 +186,7 @@ blockers-start T programs a h =
     }
 
 -- the group's programs are added
-pub blockers-next : (T programs start end : ℕ) (a readers before after : List ℕ) → SetIn T programs a → Group start end → end ≤ maxPrograms
+pub blockers-next : (T programs start end : ℕ) (a readers before after : List ℕ) → SetIn T programs a → Octet start end → end ≤ maxPrograms
     → ReadersOf (committedReads T a) start end readers → Blockers T programs start a before → Added T programs start a readers before after
     → Blockers T programs end a after
 unfolding readsStored

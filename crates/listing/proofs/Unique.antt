@@ -2,7 +2,7 @@
 use mathlib.Core.List.{List}
 use Prim.Native.Nat.{ℕ}
 use denote.Ref.{now}
-use Rattle.base.proofs.Unique.{Unique}
+use Rattle.base.specs.Unique.{Unique}
 use Rattle.listing.specs.declared.Listed.{Listed}
 use Rattle.listing.proofs.order_checked.Kinds as order-checked-kinds
 use Rattle.listing.proofs.order_checked.Reads as order-checked

@@ -3,7 +3,7 @@
 use mathlib.Core.Path.{_≡_, refl, sym, _∙_, ap}
 use mathlib.Core.Logic.{_⊎_, inl, inr, _≢_}
 use mathlib.Core.Bool.{Bool, true, false}
-use mathlib.Core.List.{List, [], _∷_}
+use mathlib.Core.List.{List, _∷_}
 use Prim.Native.Nat.{ℕ, zero, suc, _≤_, _<_}
 use native.Mathlib.Omega.{arith}
 use lib.Dec.{eqb}
@@ -14,13 +14,8 @@ use Rattle.base.proofs.Bools.{known, clash, not-true, both-and, no-not}
 use Rattle.base.proofs.Numbers.{zero-or, first-some, first-is, first-none}
 use Rattle.base.proofs.Members.{has-cases, has-at, has-tail, has-none}
 use Rattle.base.proofs.Counts.{count-some, count-zero}
-use Rattle.listing.specs.Order.{blocks, ready, without, grow, listed}
+use Rattle.listing.specs.Order.{blocks, ready, without, grow, listed, Ordered}
 use Rattle.listing.proofs.Taken.{without-is, is-without, count-without, blocks-is, is-blocks, ready-is, is-ready}
-
--- none of the list reads a cell that one before it stores
-abbrev pub Ordered : (reads stores : ℕ → List ℕ) → List ℕ → Type 0
-Ordered reads stores [] = Unit {0}
-Ordered reads stores (i ∷ l) = ((j : ℕ) → has j l ≡ true → meets (reads j) (stores i) ≡ false) × Ordered reads stores l
 
 module _ (n : ℕ) (reads stores : ℕ → List ℕ) where
   -- who is taken was left

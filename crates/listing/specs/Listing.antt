@@ -6,45 +6,41 @@ use mathlib.Core.List.{List, _++_}
 use Prim.Native.Nat.{ℕ}
 use lib.Dec.{eqb, leb}
 use lib.ListN.{length, drop}
-use Rattle.base.specs.Words.{count, unless}
-use Rattle.image.specs.Refusals.{wrongState, noRoom, noOrder, refusing, Counted, noCount, counted}
+use Rattle.base.specs.Words.{count}
+use Rattle.image.specs.declared.Refusal.{Refusal}
+use Rattle.image.specs.Refusals as refusal
+use Rattle.image.specs.Refusals.{check, after, unless, Counted, noCount, counted}
 use Rattle.image.specs.Image.{countOf}
-use Rattle.slot.specs.States.{committed}
-use Rattle.area.specs.Layout.{stateOf, readsOf, storesOf}
-use Rattle.area.specs.Checks.{callRefusal, allEnded}
+use Rattle.slot.specs.declared.Group.the-variants.{Committed}
+use Rattle.area.specs.Layout.{inGroup, readsOf, storesOf}
+use Rattle.area.specs.Checks.{endedRefusal}
 use Rattle.listing.specs.declared.Listed.{Listed}
 use Rattle.listing.specs.declared.Listed.the-variants.{Refused, Count}
 use Rattle.listing.specs.Order.{listed}
 
--- program k is committed; how many are
-unfoldable pub isCommitted : ℕ → List ℕ → ℕ → Bool
-isCommitted T a k = eqb (stateOf T k a) committed
-
+-- how many programs are committed
 unfoldable pub committedCount : ℕ → ℕ → List ℕ → ℕ
-committedCount T n a = count (isCommitted T a) n
+committedCount T n a = count (inGroup Committed T a) n
 
 -- the listed order of an area for T cells and n programs
 unfoldable pub orderOf : ℕ → ℕ → List ℕ → List ℕ
-orderOf T n a = listed n n (λ k. readsOf T k a) (λ k. storesOf T k a) (isCommitted T a)
+orderOf T n a = listed n n (λ k. readsOf T k a) (λ k. storesOf T k a) (inGroup Committed T a)
 
 -- there is one where the taking gets through: all committed programs are in it
 unfoldable pub orderExists : ℕ → ℕ → List ℕ → Bool
 orderExists T n a = eqb (length (orderOf T n a)) (committedCount T n a)
 
 -- checks 1 to 7; 9, "Order, next image: some state 0 or 1"; 10, "order list under n entries"
-unfoldable pub listRefusal : List ℕ → List ℕ → List ℕ → List ℕ → ℕ
-listRefusal image t a list =
-    unless (callRefusal image t a) (λ r. r)
-    (cond (allEnded (length t) (countOf image) a) (cond (leb (countOf image) (length list)) 0 noRoom) wrongState)
+unfoldable pub listRefusal : List ℕ → List ℕ → List ℕ → List ℕ → Refusal
+listRefusal image t a list = after (endedRefusal image t a) (check (leb (countOf image) (length list)) refusal.tooShort refusal.none)
 
 -- and then 12, "no order exists"
-unfoldable pub orderRefusal : List ℕ → List ℕ → List ℕ → List ℕ → ℕ
-orderRefusal image t a list =
-    unless (listRefusal image t a list) (λ r. r) (cond (orderExists (length t) (countOf image) a) 0 noOrder)
+unfoldable pub orderRefusal : List ℕ → List ℕ → List ℕ → List ℕ → Refusal
+orderRefusal image t a list = after (listRefusal image t a list) (check (orderExists (length t) (countOf image) a) refusal.noOrder refusal.none)
 
 unfoldable pub orderAnswer : List ℕ → List ℕ → List ℕ → List ℕ → Listed
 orderAnswer image t a list =
-    unless (orderRefusal image t a list) (λ r. Refused (refusing r)) (Count (length (orderOf (length t) (countOf image) a)))
+    unless (orderRefusal image t a list) Refused (Count (length (orderOf (length t) (countOf image) a)))
 
 -- "The list beyond the committed count .. untouched": its first entries are the order
 abbrev pub overwritten : List ℕ → List ℕ → List ℕ
@@ -55,7 +51,7 @@ orderList image t a list = unless (orderRefusal image t a list) (λ r. list) (ov
 
 -- the numbers of an answer
 abbrev pub numbersOfListed : Listed → Counted
-numbersOfListed (Refused r) = noCount (r .number)
+numbersOfListed (Refused r) = noCount r
 numbersOfListed (Count k) = counted k
 
 -- The contract of the call.
@@ -65,7 +61,7 @@ pub record OrderSays (image t a list : List ℕ) (r : Listed) (list′ : List �
 
 -- The same where checks 1 to 10 have been made: the order, or that there is none.
 unfoldable pub listedAnswer : ℕ → ℕ → List ℕ → Listed
-listedAnswer T n a = cond (orderExists T n a) (Count (length (orderOf T n a))) (Refused (refusing noOrder))
+listedAnswer T n a = cond (orderExists T n a) (Count (length (orderOf T n a))) (Refused refusal.noOrder)
 
 unfoldable pub listedList : ℕ → ℕ → List ℕ → List ℕ → List ℕ
 listedList T n a list = cond (orderExists T n a) (overwritten (orderOf T n a) list) list

@@ -11,12 +11,8 @@ use Rattle.base.specs.Masks.{wordBits, hasBit, maskOf}
 use Rattle.image.specs.Limits.{maxPrograms}
 use Rattle.area.specs.Checks.{Slotted}
 use Rattle.listing.specs.Order.{grow}
-use Rattle.listing.specs.Listing.{isCommitted}
-
--- The smallest number of a set.
-pub record Least (members r : ℕ) : Type 0 where
-  pub member : hasBit members r ≡ true
-  pub none-below : (j : ℕ) → j < r → hasBit members j ≡ false
+use Rattle.slot.specs.declared.Group.the-variants.{Committed}
+use Rattle.area.specs.Layout.{inGroup}
 
 -- i is left and no other that is left is among its blockers
 unfoldable pub free : List ℕ → ℕ → ℕ → Bool
@@ -41,4 +37,4 @@ pub record Slots (a : List ℕ) (T n : ℕ) : Type 0 where
 
 -- The set of the committed programs.
 pub record CommittedSet (T n all : ℕ) (a : List ℕ) : Type 0 where
-  pub all-are : all ≡ maskOf (isCommitted T a) n
+  pub all-are : all ≡ maskOf (inGroup Committed T a) n

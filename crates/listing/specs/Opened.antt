@@ -2,8 +2,8 @@
 use Rattle.base.specs.Words.{orElse, first, count, has, meets}
 use Rattle.area.specs.Opened as area
 use Rattle.listing.specs.Order.{blocks, ready, without, grow, listed, rising}
-use Rattle.listing.specs.Listing.{isCommitted, committedCount, orderOf, orderExists, listRefusal, orderRefusal, orderAnswer, orderList}
+use Rattle.listing.specs.Listing.{committedCount, orderOf, orderExists, listRefusal, orderRefusal, orderAnswer, orderList}
 
 unfoldable pub opened : Unit {0}
-unfolding orElse first count has meets area.opened blocks ready without grow listed rising isCommitted committedCount orderOf orderExists listRefusal orderRefusal orderAnswer orderList
+unfolding orElse first count has meets area.opened blocks ready without grow listed rising committedCount orderOf orderExists listRefusal orderRefusal orderAnswer orderList
 opened = tt

@@ -9,13 +9,14 @@ use lib.ListN.{length, getD, set}
 use Rattle.base.specs.Words.{has, meets}
 use Rattle.base.specs.Masks.{wordBits, hasBit, maskOf}
 use Rattle.image.specs.Limits.{maxPrograms, maxCells}
-use Rattle.area.specs.Layout.{readsOf, storesOf}
+use Rattle.area.specs.Layout.{inGroup, readsOf, storesOf}
 use Rattle.area.specs.Checks.{Slotted}
-use Rattle.listing.specs.Listing.{isCommitted}
+use Rattle.slot.specs.declared.Group.the-variants.{Committed}
+use Rattle.listing.specs.Masks.{Slots, CommittedSet}
 
 -- a group has as many programs as a byte has bits
-abbrev pub groupSize : ℕ
-groupSize = 8
+abbrev pub octetSize : ℕ
+octetSize = 8
 
 -- bits are set for the cells of a list
 unfoldable pub withBits : ℕ → List ℕ → List ℕ → List ℕ
@@ -29,7 +30,7 @@ bitsFor readers found (c ∷ cs) = bitsFor readers (bitOr found (getD readers c 
 
 -- what program j reads, where it is committed
 unfoldable pub committedReads : ℕ → List ℕ → ℕ → List ℕ
-committedReads T a j = cond (isCommitted T a j) (readsOf T j a) []
+committedReads T a j = cond (inGroup Committed T a j) (readsOf T j a) []
 
 -- program j, a committed one, reads a cell that i stores: the two may be the same
 unfoldable pub readsStored : ℕ → List ℕ → ℕ → ℕ → Bool
@@ -41,9 +42,9 @@ pub record CellsAt (at n : ℕ) (a : List ℕ) : Type 0 where
   pub in-table : (k : ℕ) → k < n → getD a (at + k) 0 < maxCells
 
 -- The programs from start up to end are a group.
-pub record Group (start end : ℕ) : Type 0 where
+pub record Octet (start end : ℕ) : Type 0 where
   pub not-empty : start < end
-  pub small : end ≤ start + groupSize
+  pub small : end ≤ start + octetSize
 
 -- For each cell, the programs from start up to end among whose reads it is.
 pub record ReadersOf (reads : ℕ → List ℕ) (start end : ℕ) (readers : List ℕ) : Type 0 where
@@ -65,3 +66,10 @@ pub record Added (T programs start : ℕ) (a readers before after : List ℕ) : 
 pub record Blockers (T programs end : ℕ) (a blockers : List ℕ) : Type 0 where
   pub long : length blockers ≡ maxPrograms
   pub entry : (i : ℕ) → hasBit programs i ≡ true → getD blockers i 0 ≡ maskOf (readsStored T a i) end
+
+-- What is known before the picking: every slot, the committed programs, who keeps whom back, and that the list has room.
+pub record ToList (T n all : ℕ) (a blockers list : List ℕ) : Type 0 where
+  pub slots : Slots a T n
+  pub committed : CommittedSet T n all a
+  pub blocked : Blockers T all n a blockers
+  pub room : n ≤ length list

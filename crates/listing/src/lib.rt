@@ -1,17 +1,17 @@
 // The listed order: document 01, "Listed order".
 ghost use mathlib.Core.Path.{_≡_};
-ghost use mathlib.Core.Bool.{cond};
 ghost use mathlib.Core.List.{_++_};
 ghost use Prim.Native.Nat.{_+_, _*_, _%_, _^_, _<_, _≤_};
 ghost use lib.ListN.{length, take, drop, replicate};
 ghost use Rattle.base.specs.Words.{first, words};
 ghost use Rattle.image.specs.Limits.{maxPrograms, maxCells};
-ghost use Rattle.area.specs.Layout.{storesOf};
-ghost use Rattle.area.specs.Checks.{Slotted};
-ghost use Rattle.listing.specs.Listing.{isCommitted, committedCount, listRefusal, OrderSays, Lists};
-ghost use Rattle.base.specs.Masks.{wordBits, maskOf};
-ghost use Rattle.listing.specs.Readers.{groupSize, withBits, bitsFor, committedReads, CellsAt, Group, ReadersOf, SetIn, Added, Blockers};
-ghost use Rattle.listing.specs.Masks.{Least, free, Picked, Slots, CommittedSet};
+ghost use Rattle.area.specs.Layout.{inGroup, storesOf};
+ghost use Rattle.area.specs.Checks.{Measured, Slotted};
+ghost use Rattle.slot.specs.declared.Group.the-variants.{Committed};
+ghost use Rattle.listing.specs.Listing.{listRefusal, OrderSays, Lists};
+ghost use Rattle.base.specs.Masks.{wordBits};
+ghost use Rattle.listing.specs.Readers.{octetSize, withBits, bitsFor, committedReads, CellsAt, Octet, ReadersOf, SetIn, Added, Blockers, ToList};
+ghost use Rattle.listing.specs.Masks.{free, Picked, Slots};
 
 // What the listed order answers.
 pub enum Listed {
@@ -20,7 +20,7 @@ pub enum Listed {
 }
 
 // How many programs a group has: those of them that read a cell are the bits of a byte.
-const GROUP: usize = 8;
+const OCTET: usize = 8;
 
 // For each cell, the programs of a group that read it, a bit each.
 type Readers = [u8; image::Image::CELLS];
@@ -52,45 +52,22 @@ fn bits_for(area: &[u32], at: usize, count: usize, readers: &Readers) -> u8
 // Whether program i is committed.
 fn is_committed(area: &[u32], cells: usize, i: usize) -> bool
     requires { ⌜ Slotted cells i (now area) ⌝ }
-    ensures { λ r. ⌜ r ≡ isCommitted cells (now (area .entry)) i ⌝ }
+    ensures { λ r. ⌜ r ≡ inGroup Committed cells (now (area .entry)) i ⌝ }
 {
-    area::state(area, cells, i) == slot::COMMITTED
-}
-
-// The mask with bit j set or left.
-fn with_bit(mask: u64, j: usize, set: bool) -> u64
-    requires { ⌜ (j < maxPrograms) × (mask < 2 ^ j) ⌝ }
-    ensures { λ r. ⌜ r ≡ mask + cond set (2 ^ j) 0 ⌝ }
-{
-    if set {
-        return mask | 1 << j;
-    }
-    mask
-}
-
-// The committed programs, a bit each.
-fn committed_mask(area: &[u32], cells: usize, n: usize) -> u64
-    requires { ⌜ Slots (now area) cells n ⌝ }
-    ensures { λ r. ⌜ r ≡ maskOf (isCommitted cells (now (area .entry))) n ⌝ }
-{
-    let mut mask: u64 = 0;
-    for i in 0..n {
-        mask = with_bit(mask, i, is_committed(area, cells, i));
-    }
-    mask
+    let state = area::state(area, cells, i);
+    slot::is_in(slot::Group::Committed, state)
 }
 
 // Program `number`, where it is committed, is marked as a reader of the cells that it reads; its bit says its place in the group.
 fn add_reader(area: &[u32], cells: usize, number: usize, bit: usize, readers: &mut Readers)
-    requires { ⌜ Slotted cells number (now area) × (bit < groupSize) × (length (now readers) ≡ maxCells) ⌝ }
+    requires { ⌜ Slotted cells number (now area) × (bit < octetSize) × (length (now readers) ≡ maxCells) ⌝ }
     ensures { λ _. ⌜ now (readers .exit) ≡ withBits (2 ^ bit) (committedReads cells (now (area .entry)) number) (now (readers .entry)) ⌝ }
 {
     if !is_committed(area, cells, number) {
         return;
     }
-    let at = area::slot_start(cells, number);
-    let count = area[at + slot::READ_COUNT] as usize;
-    set_bits(area, at + slot::READS, count, 1 << bit, readers);
+    let s = area::span_of(area, cells, number, slot::ListKind::Reads);
+    set_bits(area, s.at, s.count, 1 << bit, readers);
 }
 
 // The programs of the group that read a cell which program i stores.
@@ -98,14 +75,13 @@ fn readers_of(area: &[u32], cells: usize, i: usize, readers: &Readers) -> u8
     requires { ⌜ Slotted cells i (now area) ⌝ }
     ensures { λ r. ⌜ r ≡ bitsFor (now (readers .entry)) 0 (storesOf cells i (now (area .entry))) ⌝ }
 {
-    let at = area::slot_start(cells, i);
-    let count = area[at + slot::STORE_COUNT] as usize;
-    bits_for(area, at + slot::STORES, count, readers)
+    let s = area::span_of(area, cells, i, slot::ListKind::Stores);
+    bits_for(area, s.at, s.count, readers)
 }
 
 // Marks, for each cell, its readers among the programs from start up to end.
 fn find_readers(area: &[u32], cells: usize, start: usize, end: usize, readers: &mut Readers)
-    requires { ⌜ Slots (now area) cells end × Group start end × (now readers ≡ replicate maxCells 0) ⌝ }
+    requires { ⌜ Slots (now area) cells end × Octet start end × (now readers ≡ replicate maxCells 0) ⌝ }
     ensures { λ _. ⌜ ReadersOf (committedReads cells (now (area .entry))) start end (now (readers .exit)) ⌝ }
 {
     for number in start..end {
@@ -119,14 +95,6 @@ fn raised(bits: u8, start: usize) -> u64
     ensures { λ r. ⌜ r ≡ (bits * 2 ^ start) % 2 ^ wordBits ⌝ }
 {
     (bits as u64) << start
-}
-
-// The smallest program of a set that has one.
-fn least(set: u64) -> usize
-    requires { ⌜ (0 < set) × (set < 2 ^ wordBits) ⌝ }
-    ensures { λ r. ⌜ Least set r ⌝ }
-{
-    u64::trailing_zeros(set) as usize
 }
 
 // Adds, to the readers of what each program of a set stores, those of the group that begins at start.
@@ -143,14 +111,14 @@ fn add_blockers(
 {
     let mut rest = set;
     while rest != 0 {
-        let i = least(rest);
+        let i = masks::least(rest);
         blockers[i] = blockers[i] | raised(readers_of(area, cells, i, readers), start);
         rest = rest & rest - 1;
     }
 }
 
 // The same, where the readers are still to be found.
-fn add_group(
+fn add_octet(
     area: &[u32],
     cells: usize,
     start: usize,
@@ -158,7 +126,7 @@ fn add_group(
     set: u64,
     blockers: &mut [u64; image::Image::PROGRAMS],
 )
-    requires { ⌜ Slots (now area) cells end × Group start end × SetIn cells set (now area) × Blockers cells set start (now area) (now blockers) ⌝ }
+    requires { ⌜ Slots (now area) cells end × Octet start end × SetIn cells set (now area) × Blockers cells set start (now area) (now blockers) ⌝ }
     ensures { λ _. ⌜ Blockers cells set end (now (area .entry)) (now (blockers .exit)) ⌝ }
 {
     let mut readers: Readers = [0; image::Image::CELLS];
@@ -167,14 +135,14 @@ fn add_group(
 }
 
 // Where the group that begins with program start ends.
-fn group_end(start: usize, n: usize) -> usize
+fn octet_end(start: usize, n: usize) -> usize
     requires { ⌜ start < n ⌝ }
-    ensures { λ r. ⌜ Group start r × (r ≤ n) ⌝ }
+    ensures { λ r. ⌜ Octet start r × (r ≤ n) ⌝ }
 {
-    if n - start < GROUP {
+    if n - start < OCTET {
         return n;
     }
-    start + GROUP
+    start + OCTET
 }
 
 // Fills in, for each program of a set, the committed programs that read what it stores.
@@ -190,24 +158,10 @@ fn fill_blockers(
 {
     let mut start = 0;
     while start < n {
-        let end = group_end(start, n);
-        add_group(area, cells, start, end, set, blockers);
+        let end = octet_end(start, n);
+        add_octet(area, cells, start, end, set, blockers);
         start = end;
     }
-}
-
-// How many programs are committed.
-fn committed_count(area: &[u32], cells: usize, n: usize) -> usize
-    requires { ⌜ Slots (now area) cells n ⌝ }
-    ensures { λ r. ⌜ r ≡ committedCount cells n (now (area .entry)) ⌝ }
-{
-    let mut found: usize = 0;
-    for i in 0..n {
-        if is_committed(area, cells, i) {
-            found += 1;
-        }
-    }
-    found
 }
 
 // 1 + the first program that is left and that no other that is left keeps back; 0 where there is none.
@@ -217,7 +171,7 @@ fn next_free(blockers: &[u64; image::Image::PROGRAMS], left: u64) -> usize
 {
     let mut rest = left;
     while rest != 0 {
-        let i = least(rest);
+        let i = masks::least(rest);
         if blockers[i] & (left ^ 1 << i) == 0 {
             return i + 1;
         }
@@ -277,15 +231,13 @@ fn list_all(
     blockers: &[u64; image::Image::PROGRAMS],
     list: &mut [u32],
 ) -> Listed
-    requires { ⌜ Slots (now area) cells n × CommittedSet cells n all (now area) × Blockers cells all n (now area) (now blockers) × (n ≤ length (now list)) ⌝ }
+    requires { ⌜ ToList cells n all (now area) (now blockers) (now list) ⌝ }
     ensures { λ r. ⌜ Lists cells n (now (area .entry)) (now (list .entry)) r (now (list .exit)) ⌝ }
 {
     let mut taken: [u8; image::Image::PROGRAMS] = [0; image::Image::PROGRAMS];
     let found = pick_all(blockers, all, n, &mut taken);
-    if found != committed_count(area, cells, n) {
-        return Listed::Refused(image::Refusal {
-            number: image::Refusal::NO_ORDER,
-        });
+    if found != masks::count(all, n) {
+        return Listed::Refused(image::Refusal::NO_ORDER);
     }
     copy_order(&taken, found, list);
     Listed::Count(found)
@@ -293,40 +245,36 @@ fn list_all(
 
 // The same, where checks 1 to 10 have been made.
 pub fn order_checked(area: &[u32], cells: usize, n: usize, list: &mut [u32]) -> Listed
-    requires { ⌜ Slots (now area) cells n × (n ≤ length (now list)) ⌝ }
+    requires { ⌜ Measured cells n (now area) × Slots (now area) cells n × (n ≤ length (now list)) ⌝ }
     ensures { λ r. ⌜ Lists cells n (now (area .entry)) (now (list .entry)) r (now (list .exit)) ⌝ }
 {
     let mut blockers: [u64; image::Image::PROGRAMS] = [0; image::Image::PROGRAMS];
-    let all = committed_mask(area, cells, n);
+    let all = area::members(area, cells, n, slot::Group::Committed);
     fill_blockers(area, cells, n, all, &mut blockers);
     list_all(area, cells, n, all, &blockers, list)
 }
 
 // Checks 1 to 10.
-fn order_refusal(image: &[u8], table: &[u32], area: &[u32], list: &[u32]) -> u32
+fn list_refusal(image: &[u8], table: &[u32], area: &[u32], list: &[u32]) -> image::Refusal
     ensures { λ r. ⌜ r ≡ listRefusal (now (image .entry)) (now (table .entry)) (now (area .entry)) (now (list .entry)) ⌝ }
 {
-    let refused = area::call_refusal(image, table, area);
-    if refused != 0 {
+    let refused = area::ended_refusal(image, table, area);
+    if refused.number != 0 {
         return refused;
     }
-    let n = image::count(image);
-    if !area::all_ended(area, table.len(), n) {
-        return image::Refusal::WRONG_STATE;
+    if list.len() < image::count(image) {
+        return image::Refusal::TOO_SHORT;
     }
-    if list.len() < n {
-        return image::Refusal::NO_ROOM;
-    }
-    0
+    image::Refusal::NONE
 }
 
 // The listed order of a batch whose programs are all settled: each committed program once, and how many there are.
 pub fn order(image: &[u8], table: &[u32], area: &[u32], list: &mut [u32]) -> Listed
     ensures { λ r. ⌜ OrderSays (now (image .entry)) (now (table .entry)) (now (area .entry)) (now (list .entry)) r (now (list .exit)) ⌝ }
 {
-    let refused = order_refusal(image, table, area, list);
-    if refused != 0 {
-        return Listed::Refused(image::Refusal { number: refused });
+    let refused = list_refusal(image, table, area, list);
+    if refused.number != 0 {
+        return Listed::Refused(refused);
     }
     order_checked(area, table.len(), image::count(image), list)
 }

@@ -2,7 +2,7 @@
 use Prim.Native.Nat.{ℕ}
 use mathlib.Core.List.{List}
 use denote.Ref.{now}
-use Rattle.base.proofs.Unique.{Unique}
+use Rattle.base.specs.Unique.{Unique}
 use Rattle.machine.specs.declared.Run.{Run}
 use Rattle.machine.proofs.run_program.Kinds as run-program-kinds
 use Rattle.machine.proofs.run_program.Reads as run-program

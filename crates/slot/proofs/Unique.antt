@@ -5,7 +5,7 @@ use mathlib.Core.Path.{_≡_, sym, _∙_}
 use native.Mathlib.Omega.{arith}
 use lib.Seq.{ext-getD}
 use denote.Ref.{now}
-use Rattle.base.proofs.Unique.{Unique}
+use Rattle.base.specs.Unique.{Unique}
 use Rattle.slot.specs.Log.{Marked}
 use Rattle.slot.proofs.can_settle.Kinds as can-settle-kinds
 use Rattle.slot.proofs.can_settle.Reads as can-settle

@@ -3,7 +3,7 @@
 use mathlib.Core.List.{List}
 use Prim.Native.Nat.{ℕ}
 use denote.Ref.{now}
-use Rattle.base.proofs.Unique.{Unique}
+use Rattle.base.specs.Unique.{Unique}
 use Rattle.image.specs.declared.Refusal.{Refusal}
 use Rattle.machine.specs.declared.Run.{Run}
 use Rattle.steps.specs.declared.Gathered.{Gathered}

@@ -1,5 +1,5 @@
 -- Laws of lists of programs: how long they are, where they end, which of an image's pass. Assumes nothing.
-use mathlib.Core.Path.{_≡_, refl, sym, ap, _∙_}
+use mathlib.Core.Path.{_≡_, refl, ap, _∙_}
 use mathlib.Core.Logic.{_⊎_, inl, inr}
 use mathlib.Core.Bool.{Bool, true, false, cond}
 use mathlib.Core.List.{List, [], _∷_, _++_, append-assoc, append-nil}
@@ -12,7 +12,7 @@ use Rattle.base.specs.Words.{count}
 use Rattle.base.specs.Masks.{hasBit}
 use Rattle.base.proofs.Counts.{count-below}
 use Rattle.base.proofs.Numbers.{below}
-use Rattle.image.specs.Limits.{maxPrograms, maxProgramBytes, headBytes}
+use Rattle.image.specs.Limits.{maxProgramBytes, headBytes}
 use Rattle.image.specs.Image.{countOf, partOf, refusalOf}
 use Rattle.image.proofs.Laws.{lies, lies-short, accepted, few-programs}
 use Rattle.writer.specs.declared.Place.{Place}

@@ -3,7 +3,7 @@ use mathlib.Core.Path.{sym, _∙_}
 use mathlib.Core.List.{List}
 use Prim.Native.Nat.{ℕ}
 use denote.Ref.{now}
-use Rattle.base.proofs.Unique.{Unique}
+use Rattle.base.specs.Unique.{Unique}
 use Rattle.writer.proofs.put_pair.Kinds as put-pair-kinds
 use Rattle.writer.proofs.put_pair.Reads as put-pair
 use Rattle.writer.proofs.put_number.Kinds as put-number-kinds
@@ -12,10 +12,6 @@ use Rattle.writer.proofs.copy_part.Kinds as copy-part-kinds
 use Rattle.writer.proofs.copy_part.Reads as copy-part
 use Rattle.writer.proofs.put_header.Kinds as put-header-kinds
 use Rattle.writer.proofs.put_header.Reads as put-header
-use Rattle.writer.proofs.all.Kinds as all-kinds
-use Rattle.writer.proofs.all.Reads as all
-use Rattle.writer.proofs.taken_count.Kinds as taken-count-kinds
-use Rattle.writer.proofs.taken_count.Reads as taken-count
 use Rattle.writer.proofs.taken_bytes.Kinds as taken-bytes-kinds
 use Rattle.writer.proofs.taken_bytes.Reads as taken-bytes
 use Rattle.writer.proofs.put_ends.Kinds as put-ends-kinds
@@ -41,12 +37,6 @@ put-ends-unique κs a x y s t p q = cc
 
 pub put-bodies-unique : Unique {A = ℕ × List ℕ} 2 put-bodies-kinds.ps put-bodies-kinds.r (λ κs x s. (x, now (s .0))) put-bodies.Post
 put-bodies-unique κs a x y s t p q = cc
-
-pub all-unique : Unique 0 all-kinds.ps all-kinds.r (λ κs x s. x) all.Post
-all-unique κs a x y s t p q = p ∙ sym q
-
-pub taken-count-unique : Unique 0 taken-count-kinds.ps taken-count-kinds.r (λ κs x s. x) taken-count.Post
-taken-count-unique κs a x y s t p q = p .0 ∙ sym (q .0)
 
 pub taken-bytes-unique : Unique 1 taken-bytes-kinds.ps taken-bytes-kinds.r (λ κs x s. x) taken-bytes.Post
 taken-bytes-unique κs a x y s t p q = p .0 ∙ sym (q .0)

@@ -1,12 +1,10 @@
 // Writing an image: document 01, "The image: counts and offsets". The header, then where each program ends, then the programs' bytes; the programs
 // are those of an image that a mask has.
 ghost use mathlib.Core.Path.{_≡_};
-ghost use mathlib.Core.Bool.{true};
 ghost use mathlib.Core.List.{[], _∷_};
 ghost use Prim.Native.Nat.{_+_, _*_, _<_, _≤_};
 ghost use lib.ListN.{length};
-ghost use Rattle.base.specs.Words.{count};
-ghost use Rattle.base.specs.Masks.{wordBits, hasBit, maskOf};
+ghost use Rattle.base.specs.Masks.{hasBit};
 ghost use Rattle.image.specs.Limits.{maxPrograms, maxProgramBytes, minBytes};
 ghost use Rattle.writer.specs.Joined.{number, joined};
 ghost use Rattle.writer.specs.Picked.{pick, picked};
@@ -58,45 +56,12 @@ pub fn put_header(out: &mut [u8], count: usize, rule: u8) -> usize
     put_number(out, b, image::head_bytes(count))
 }
 
-// The mask of the first n programs.
-pub fn all(n: usize) -> u64
-    requires { ⌜ n ≤ wordBits ⌝ }
-    ensures { λ r. ⌜ r ≡ maskOf (λ k. true) n ⌝ }
-{
-    if n == 64 {
-        return u64::MAX;
-    }
-    (1 << n) - 1
-}
-
-// Whether a mask has program i.
-fn is_taken(mask: u64, i: usize) -> bool
-    requires { ⌜ i < maxPrograms ⌝ }
-    ensures { λ r. ⌜ r ≡ hasBit mask i ⌝ }
-{
-    mask >> i & 1 == 1
-}
-
-// How many of the first n programs a mask has.
-pub fn taken_count(n: usize, mask: u64) -> usize
-    requires { ⌜ n ≤ maxPrograms ⌝ }
-    ensures { λ r. ⌜ (r ≡ count (hasBit mask) n) × (r ≤ n) ⌝ }
-{
-    let mut found: usize = 0;
-    for i in 0..n {
-        if is_taken(mask, i) {
-            found += 1;
-        }
-    }
-    found
-}
-
 // Program i's bytes, none where the mask does not have it.
 fn taken_part(image: &[u8], n: usize, mask: u64, i: usize) -> &[u8]
     requires { ⌜ Source (now image) n mask × (i < n) ⌝ }
     ensures { λ r. ⌜ now r ≡ joined (pick (hasBit mask) (now (image .entry)) i) ⌝ }
 {
-    if is_taken(mask, i) {
+    if masks::has(mask, i) {
         image::part_of(image, i)
     } else {
         &image[..0]
@@ -121,7 +86,7 @@ fn put_end(out: &mut [u8], place: Place, image: &[u8], n: usize, mask: u64, i: u
     requires { ⌜ Source (now image) n mask × (i < n) × EndRoom (now out) place (pick (hasBit mask) (now image) i) ⌝ }
     ensures { λ r. ⌜ Ended (now (out .entry)) place (pick (hasBit mask) (now (image .entry)) i) (now (out .exit)) r ⌝ }
 {
-    if !is_taken(mask, i) {
+    if !masks::has(mask, i) {
         return place;
     }
     let part = image::part_of(image, i);

@@ -1,5 +1,4 @@
 -- The stored cells and their values are found in the slot; then the loop stores. Assumes nothing.
-use mathlib.Core.Path.{_≡_}
 use native.Mathlib.Omega.{arith}
 use Rattle.area.proofs.Places.{by-stores, stores-list}
 use borrow.Author.Needs.{needs}

@@ -1,6 +1,6 @@
 -- The loop's invariant: the mask has the programs passed that are in the group. The measure is how many are left. Assumes nothing.
 use mathlib.Core.Path.{_≡_, sym, ap, _∙_}
-use Prim.Native.Nat.{_-_, _≤_, _<_, _^_}
+use Prim.Native.Nat.{_-_, _≤_}
 use native.Mathlib.Omega.{arith}
 use borrow.Author.Needs.{needs}
 use Rattle.base.specs.Masks.{maskOf}

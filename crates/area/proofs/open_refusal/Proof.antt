@@ -1,10 +1,8 @@
 -- The image's own checks go first; an image that passes has few programs. Assumes nothing.
-use mathlib.Core.Path.{_≡_, sym, _∙_}
+use mathlib.Core.Path.{sym, _∙_}
 use native.Mathlib.Omega.{arith}
-use denote.Ref.{now}
-use Rattle.image.specs.Image.{refusalOf}
 use Rattle.image.proofs.Refusing.{first-refuses, first-passes, number-of}
-use Rattle.area.specs.Checks.{openRefusal, roomRefusal}
+use Rattle.area.specs.Checks.{openRefusal}
 use Rattle.area.proofs.Checks.{few}
 use borrow.Author.Needs.{needs}
 use Rattle.area.proofs.open_refusal.Statement.{statement}

@@ -1,8 +1,7 @@
 -- The state, then each list; the first that fails decides. Assumes nothing.
 use mathlib.Core.Path.{_≡_, sym, _∙_}
-use mathlib.Core.Bool.{true, false}
+use mathlib.Core.Bool.{true}
 use Prim.Native.Nat.{_≤_, _<_}
-use lib.Dec.{leb}
 use borrow.Author.Tests.{not-true, not-false, le-leb, lt-leb}
 use Rattle.slot.specs.States.{lastState}
 use Rattle.area.specs.Layout.{stateOf}

@@ -1,5 +1,4 @@
 -- The slot's beginning and the kind's two words say where count and list stand. Assumes nothing.
-use mathlib.Core.Path.{_≡_}
 use Prim.Native.Nat.{_+_, _<_}
 use lib.ListN.{length}
 use native.Mathlib.Omega.{arith}

@@ -8,7 +8,7 @@ use Rattle.image.proofs.Refusing.{first-refuses, number-of}
 use Rattle.area.proofs.Checks.{measured}
 use Rattle.carry.specs.Next.{lentRefusal, nextRefusal}
 use Rattle.carry.proofs.Checks.{lent-shows, next-refused}
-use Rattle.carry.proofs.Taken.{Taken, taken-sources, taken-size, taken-fits, taken-done}
+use Rattle.carry.proofs.Chosen.{Chosen, chosen-sources, chosen-size, chosen-fits, chosen-done}
 use Rattle.carry.proofs.next_image.Statement.{statement}
 use Rattle.carry.proofs.next_image.Tie as tie
 
@@ -20,17 +20,17 @@ lent : (c : tie.Else1)
     → (let a = start-of (c .before .before) .args in lentRefusal (a .image .now) (a .table .now) (a .area .now) (a .fresh .now) .number ≡ 0)
 lent c = number-of (sym (c .before .before .lent-refusal .ensures)) ∙ c .if1 .left
 
-abbrev begin-of : tie.After-taken-count → tie.Start
+abbrev begin-of : tie.After-count3 → tie.Start
 begin-of c = start-of (c .before .before .before .before .before .before)
 
-taken : (c : tie.After-taken-count) → (let a = begin-of c .args in let m = c .before .before .count2 .result in
-    Taken (a .image .now) (a .table .now) (a .area .now) (a .fresh .now) (c .before .before .before .count .result) m (c .before .members .result) (c .taken-count .result + m))
-taken c = record {
+chosen : (c : tie.After-count3) → (let a = begin-of c .args in let m = c .before .before .count2 .result in
+    Chosen (a .image .now) (a .table .now) (a .area .now) (a .fresh .now) (c .before .before .before .count .result) m (c .before .members .result) (c .count3 .result + m))
+chosen c = record {
   lent = lent (c .before .before .before .before);
   n-is = c .before .before .before .count .ensures .0;
   m-is = c .before .before .count2 .ensures .0;
   mask-is = c .before .members .ensures;
-  counted = omega (arith, c .taken-count .ensures .0);
+  counted = omega (arith, c .count3 .ensures .0);
 }
 
 lent-refusal-requires : tie.Need-lent-refusal-requires
@@ -53,14 +53,14 @@ members-requires : tie.Need-members-requires
 members-requires c κs =
     measured _ _ _ (lent-shows _ _ _ _ (lent (c .before .before)) .0) _ (c .before .count .ensures .0)
 
-taken-count-requires : tie.Need-taken-count-requires
-taken-count-requires c κs = omega (arith, lent-shows _ _ _ _ (lent (c .before .before .before)) .0 .programs, c .before .before .count .ensures .0)
+count3-requires : tie.Need-count3-requires
+count3-requires c κs = omega (arith, lent-shows _ _ _ _ (lent (c .before .before .before)) .0 .programs, c .before .before .count .ensures .0)
 
 add-programs : tie.Need-add-programs
 add-programs c = search needs
 
 size-refusal-requires : tie.Need-size-refusal-requires
-size-refusal-requires c κs = taken-sources (taken (c .before))
+size-refusal-requires c κs = chosen-sources (chosen (c .before))
 
 same-length : tie.Need-same-length
 same-length c = search needs
@@ -71,13 +71,13 @@ returns-2 c =
     let k = s .before .before in
     let a = begin-of k .args in
     next-refused (a .image .now) (a .table .now) (a .area .now) (a .fresh .now) (a .out .now) _
-    (taken-size (taken k) (a .out .now) (s .size-refusal .ensures)) (c .if2 .taken)
+    (chosen-size (chosen k) (a .out .now) (s .size-refusal .ensures)) (c .if2 .taken)
 
 write-next-requires : tie.Need-write-next-requires
 write-next-requires c κs =
     let s = c .before .before .before in
-    let k = taken (s .before .before) in
-    (taken-sources k, taken-fits k _ (s .size-refusal .ensures) (c .before .if2 .left))
+    let k = chosen (s .before .before) in
+    (chosen-sources k, chosen-fits k _ (s .size-refusal .ensures) (c .before .if2 .left))
 
 same-length-2 : tie.Need-same-length-2
 same-length-2 c = search needs
@@ -86,7 +86,7 @@ returns-3 : tie.Need-returns-3
 returns-3 c =
     let e = c .before .before .before .before in
     let s = e .before .before in
-    taken-done (taken (s .before .before)) _ (s .size-refusal .ensures) (e .if2 .left) (c .before .before .write-next .ensures)
+    chosen-done (chosen (s .before .before)) _ (s .size-refusal .ensures) (e .if2 .left) (c .before .before .write-next .ensures)
 
 pub next-image-spec : {M : Type 1} → statement M
 next-image-spec =
@@ -97,7 +97,7 @@ next-image-spec =
     count-requires
     count-requires-2
     members-requires
-    taken-count-requires
+    count3-requires
     add-programs
     size-refusal-requires
     same-length

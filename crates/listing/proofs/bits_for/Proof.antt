@@ -1,6 +1,5 @@
 -- The loop's invariant: what is found and the bits of the cells not yet passed are those of all. The measure is what is left of the count. Assumes nothing.
 use mathlib.Core.Path.{_≡_, ap}
-use mathlib.Core.List.{List}
 use Prim.Native.Nat.{_+_, _≤_, _-_, _<_}
 use native.Mathlib.Omega.{arith}
 use lib.ListN.{getD}

@@ -19,20 +19,20 @@ loop-holds c =
     let s = c .before in
     (search needs, rw (s .pre .2) (blockers-start (s .args .cells) (s .args .set) (s .args .area .now) (s .pre .1 .bounded)))
 
-group-end-requires : tie.Need-group-end-requires Inv-loop μ-loop
-group-end-requires c κs = search needs
+octet-end-requires : tie.Need-octet-end-requires Inv-loop μ-loop
+octet-end-requires c κs = search needs
 
-add-group-requires : tie.Need-add-group-requires Inv-loop μ-loop
-add-group-requires c κs =
+add-octet-requires : tie.Need-add-octet-requires Inv-loop μ-loop
+add-octet-requires c κs =
     let s = c .before .before .before .before .before in
-    let e = c .before .group-end .ensures in
+    let e = c .before .octet-end .ensures in
     (slots-below (s .args .cells) (s .args .n) (s .args .area .now) _ (s .pre .0) (e .1), e .0, s .pre .1, c .before .before .before .loop .inv .1)
 
 loop-less : tie.Need-loop-less Inv-loop μ-loop
-loop-less c = omega (arith, c .before .before .group-end .ensures .0 .not-empty)
+loop-less c = omega (arith, c .before .before .octet-end .ensures .0 .not-empty)
 
 loop-again : tie.Need-loop-again Inv-loop μ-loop
-loop-again c = (c .before .before .group-end .ensures .1, c .add-group .ensures)
+loop-again c = (c .before .before .octet-end .ensures .1, c .add-octet .ensures)
 
 returns : tie.Need-returns Inv-loop μ-loop
 returns c =
@@ -47,8 +47,8 @@ fill-blockers-spec =
     Inv-loop
     μ-loop
     loop-holds
-    group-end-requires
-    add-group-requires
+    octet-end-requires
+    add-octet-requires
     loop-less
     loop-again
     returns)

@@ -1,15 +1,21 @@
--- The state is the one that the definition asks for. Assumes nothing.
+-- The state is asked whether it is of the group. Assumes nothing.
+use mathlib.Core.Path.{ap, _∙_}
+use Rattle.slot.specs.declared.Group.the-variants.{Committed}
+use Rattle.slot.specs.States.{isIn}
+use Rattle.area.specs.Layout.{inGroup}
 use borrow.Author.Needs.{needs}
-use Rattle.listing.specs.Listing.{isCommitted}
 use Rattle.listing.proofs.is_committed.Statement.{statement}
 use Rattle.listing.proofs.is_committed.Tie as tie
 
 state-requires : tie.Need-state-requires
 state-requires c κs = search needs
 
+is-in-requires : tie.Need-is-in-requires
+is-in-requires c κs = search needs
+
 returns : tie.Need-returns
-unfolding isCommitted
-returns c = rw (c .state .ensures)
+unfolding inGroup
+returns c = c .is-in .ensures ∙ ap (isIn Committed) (c .before .state .ensures)
 
 pub is-committed-spec : {M : Type 1} → statement M
-is-committed-spec = tie.close (tie.spec state-requires returns)
+is-committed-spec = tie.close (tie.spec state-requires is-in-requires returns)

@@ -8,10 +8,10 @@ use Rattle.listing.proofs.list_all.Tie as tie
 pick-all-requires : tie.Need-pick-all-requires
 pick-all-requires c κs =
     let s = c .before .before .before in
-    (s .pre .0 .few, all-bounded (s .args .cells) (s .args .n) (s .args .all) (s .args .area .now) (s .pre .0 .few) (s .pre .1), search needs)
+    (s .pre .slots .few, all-bounded (s .args .cells) (s .args .n) (s .args .all) (s .args .area .now) (s .pre .slots .few) (s .pre .committed), search needs)
 
-committed-count-requires : tie.Need-committed-count-requires
-committed-count-requires c κs = search needs
+count-requires : tie.Need-count-requires
+count-requires c κs = search needs
 
 returns : tie.Need-returns
 returns c =
@@ -19,8 +19,8 @@ returns c =
     let p = k .before .pick-all in
     let s = k .before .before .before .before .before in
     let a = s .args in
-    no-order (a .cells) (a .n) (a .area .now) (a .blockers .now) (a .all) (s .pre .0 .few) (s .pre .1) (s .pre .2)
-    (p .result) (k .committed-count .result) (a .list .now) (p .ensures .as-many) (k .committed-count .ensures) (c .if1 .taken)
+    no-order (a .cells) (a .n) (a .area .now) (a .blockers .now) (a .all) (s .pre .slots .few) (s .pre .committed) (s .pre .blocked)
+    (p .result) (k .count .result) (a .list .now) (p .ensures .as-many) (k .count .ensures .0) (c .if1 .taken)
 
 copy-order-requires : tie.Need-copy-order-requires
 copy-order-requires c κs = search needs
@@ -35,8 +35,8 @@ returns-2 c =
     let s = k .before .before .before .before .before in
     let a = s .args in
     let o = c .before .before .copy-order in
-    whole-order (a .cells) (a .n) (a .area .now) (a .blockers .now) (a .all) (s .pre .0 .few) (s .pre .1) (s .pre .2)
-    (p .result) (k .committed-count .result) (a .list .now) (p .ensures .as-many) (k .committed-count .ensures)
+    whole-order (a .cells) (a .n) (a .area .now) (a .blockers .now) (a .all) (s .pre .slots .few) (s .pre .committed) (s .pre .blocked)
+    (p .result) (k .count .result) (a .list .now) (p .ensures .as-many) (k .count .ensures .0)
     (p .last .1 .1 .1 .0) (o .last .1 .1 .0) (c .before .before .before .before .before .if1 .left) (p .ensures .front) (o .ensures)
 
 pub list-all-spec : {M : Type 1} → statement M
@@ -44,7 +44,7 @@ list-all-spec =
     tie.close
     (tie.spec
     pick-all-requires
-    committed-count-requires
+    count-requires
     returns
     copy-order-requires
     same-length

@@ -2,36 +2,38 @@
 -- Assumes nothing.
 use mathlib.Core.Path.{_≡_, sym, _∙_}
 use borrow.Author.Needs.{needs}
+use Rattle.image.proofs.Refusing.{number-of}
 use Rattle.listing.specs.Listing.{listRefusal}
 use Rattle.listing.proofs.Orders.{list-ready, order-refused, order-done}
 use Rattle.listing.proofs.order.Statement.{statement}
 use Rattle.listing.proofs.order.Tie as tie
 
-abbrev start-of : tie.After-order-refusal → tie.Start
+abbrev start-of : tie.After-list-refusal → tie.Start
 start-of c = c .before .before .before .before .before .before
 
 -- checks 1 to 10 have been passed
-passed : (c : tie.Else1) → (let a = start-of (c .before) .args in listRefusal (a .image .now) (a .table .now) (a .area .now) (a .list .now) ≡ 0)
-passed c = sym (c .before .order-refusal .ensures) ∙ c .if1 .left
+passed : (c : tie.Else1)
+    → (let a = start-of (c .before .before) .args in listRefusal (a .image .now) (a .table .now) (a .area .now) (a .list .now) .number ≡ 0)
+passed c = number-of (sym (c .before .before .list-refusal .ensures)) ∙ c .if1 .left
 
-order-refusal-requires : tie.Need-order-refusal-requires
-order-refusal-requires c κs = search needs
+list-refusal-requires : tie.Need-list-refusal-requires
+list-refusal-requires c κs = search needs
 
 same-length : tie.Need-same-length
 same-length c = search needs
 
 returns : tie.Need-returns
 returns c =
-    let a = start-of (c .before) .args in
-    order-refused (a .image .now) (a .table .now) (a .area .now) (a .list .now) _ (c .before .order-refusal .ensures) (c .if1 .taken)
+    let a = start-of (c .before .before) .args in
+    order-refused (a .image .now) (a .table .now) (a .area .now) (a .list .now) _ (c .before .before .list-refusal .ensures) (c .if1 .taken)
 
 count-requires : tie.Need-count-requires
 count-requires c κs = search needs
 
 order-checked-requires : tie.Need-order-checked-requires
 order-checked-requires c κs =
-    let a = start-of (c .before .before .before) .args in
-    rw (c .before .count .ensures .0) (list-ready (a .image .now) (a .table .now) (a .area .now) (a .list .now) (passed (c .before .before)))
+    let a = start-of (c .before .before .before .before) .args in
+    list-ready (a .image .now) (a .table .now) (a .area .now) (a .list .now) (passed (c .before .before)) _ (c .before .count .ensures .0)
 
 same-length-2 : tie.Need-same-length-2
 same-length-2 c = search needs
@@ -39,7 +41,7 @@ same-length-2 c = search needs
 returns-2 : tie.Need-returns-2
 returns-2 c =
     let q = c .before .before .before .before in
-    let a = start-of (q .before .before) .args in
+    let a = start-of (q .before .before .before) .args in
     order-done (a .image .now) (a .table .now) (a .area .now) (a .list .now) (passed (q .before)) _ (q .count .ensures .0) _ _
     (c .before .before .order-checked .ensures)
 
@@ -47,7 +49,7 @@ pub order-spec : {M : Type 1} → statement M
 order-spec =
     tie.close
     (tie.spec
-    order-refusal-requires
+    list-refusal-requires
     same-length
     returns
     count-requires

@@ -4,18 +4,21 @@ use Rattle.listing.proofs.Readers.{committed-in}
 use Rattle.listing.proofs.order_checked.Statement.{statement}
 use Rattle.listing.proofs.order_checked.Tie as tie
 
-committed-mask-requires : tie.Need-committed-mask-requires
-committed-mask-requires c κs = search needs
+members-requires : tie.Need-members-requires
+members-requires c κs = search needs
 
 fill-blockers-requires : tie.Need-fill-blockers-requires
 fill-blockers-requires c κs =
-    let m = c .before .committed-mask in
+    let m = c .before .members in
     let s = c .before .before .before .before in
     let a = s .args in
-    (s .pre .0, committed-in (a .cells) (a .n) (m .result) (a .area .now) (s .pre .0) (record { all-are = m .ensures }), search needs)
+    (s .pre .1, committed-in (a .cells) (a .n) (m .result) (a .area .now) (s .pre .1) (record { all-are = m .ensures }), search needs)
 
 list-all-requires : tie.Need-list-all-requires
-list-all-requires c κs = search needs
+list-all-requires c κs =
+    let s = c .before .before .before .before .before .before .before in
+    let m = c .before .before .before .before .members in
+    record { slots = s .pre .1; committed = record { all-are = m .ensures }; blocked = c .before .before .fill-blockers .ensures; room = s .pre .2 }
 
 same-length : tie.Need-same-length
 same-length c = search needs
@@ -26,4 +29,4 @@ returns c = search needs
 pub order-checked-spec : {M : Type 1} → statement M
 order-checked-spec =
     tie.close
-    (tie.spec committed-mask-requires fill-blockers-requires list-all-requires same-length returns)
+    (tie.spec members-requires fill-blockers-requires list-all-requires same-length returns)

@@ -12,28 +12,28 @@ use Rattle.writer.proofs.Programs.{pick-in, pick-out, ended-none, ended
 use Rattle.writer.proofs.put_end.Statement.{statement}
 use Rattle.writer.proofs.put_end.Tie as tie
 
-abbrev start-of : tie.After-is-taken → tie.Start
+abbrev start-of : tie.After-has → tie.Start
 start-of c = c .before .before .before
 
 taken : (c : tie.Else1)
     → (let a = start-of (c .before) .args in pick (hasBit (a .mask)) (a .image .now) (a .i) ≡ partOf (a .image .now) (a .i) ∷ [])
 taken c =
     let a = start-of (c .before) .args in
-    pick-in (hasBit (a .mask)) (a .image .now) (a .i) (sym (c .before .is-taken .ensures) ∙ not-false _ (c .if1 .left))
+    pick-in (hasBit (a .mask)) (a .image .now) (a .i) (sym (c .before .has .ensures) ∙ not-false _ (c .if1 .left))
 
-is-taken-requires : tie.Need-is-taken-requires
-is-taken-requires c κs = search needs
+has-requires : tie.Need-has-requires
+has-requires c κs = search needs
 
 returns : tie.Need-returns
 returns c =
     let a = start-of (c .before) .args in
-    rw (pick-out (hasBit (a .mask)) (a .image .now) (a .i) (sym (c .before .is-taken .ensures) ∙ not-true _ (c .if1 .taken)))
+    rw (pick-out (hasBit (a .mask)) (a .image .now) (a .i) (sym (c .before .has .ensures) ∙ not-true _ (c .if1 .taken)))
     (ended-none (a .out .now) (a .place))
 
 part-of-requires : tie.Need-part-of-requires
 part-of-requires c κs =
     let s = start-of (c .before) in
-    (s .pre .0 .lies _ (s .pre .1) (sym (c .before .is-taken .ensures) ∙ not-false _ (c .if1 .left)), omega (arith, s .pre .0 .few, s .pre .1))
+    (s .pre .0 .lies _ (s .pre .1) (sym (c .before .has .ensures) ∙ not-false _ (c .if1 .left)), omega (arith, s .pre .0 .few, s .pre .1))
 
 add-end : tie.Need-add-end
 add-end c = search needs
@@ -55,7 +55,7 @@ pub put-end-spec : {M : Type 1} → statement M
 put-end-spec =
     tie.close
     (tie.spec
-    is-taken-requires
+    has-requires
     returns
     part-of-requires
     add-end

@@ -1,8 +1,7 @@
 -- The loop's invariant: the ends of the programs below i that the mask has stand there. The measure is what is left of n. Assumes nothing.
-use mathlib.Core.Path.{_≡_, refl}
+use mathlib.Core.Path.{_≡_}
 use Prim.Native.Nat.{_≤_, _-_}
 use native.Mathlib.Omega.{arith}
-use lib.ListN.{length}
 use borrow.Author.Needs.{needs}
 use Rattle.base.specs.Masks.{hasBit}
 use Rattle.writer.specs.Picked.{picked}

@@ -1,6 +1,6 @@
 -- Three writes, one after another, leave the header and the first offset. Assumes nothing.
 use native.Mathlib.Omega.{arith}
-use lib.ListN.{length, length-append}
+use lib.ListN.{length-append}
 use borrow.Author.Needs.{needs}
 use Rattle.writer.specs.Writing.{header}
 use Rattle.writer.proofs.Writing.{wrote-more}

@@ -1,8 +1,8 @@
 -- The bit is looked at as the definition does. Assumes nothing.
 use borrow.Author.Needs.{needs}
 use Rattle.base.proofs.Masks.{bit-is}
-use Rattle.writer.proofs.is_taken.Statement.{statement}
-use Rattle.writer.proofs.is_taken.Tie as tie
+use Rattle.masks.proofs.has.Statement.{statement}
+use Rattle.masks.proofs.has.Tie as tie
 
 shr-result : tie.Need-shr-result
 shr-result c = search needs
@@ -10,5 +10,5 @@ shr-result c = search needs
 returns : tie.Need-returns
 returns c = bit-is _ _
 
-pub is-taken-spec : {M : Type 1} → statement M
-is-taken-spec = tie.close (tie.spec shr-result returns)
+pub has-spec : {M : Type 1} → statement M
+has-spec = tie.close (tie.spec shr-result returns)

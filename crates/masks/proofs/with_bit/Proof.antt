@@ -1,17 +1,15 @@
--- The mask has no bit from j on, so setting bit j adds it. Assumes nothing.
+-- A bit that is set is added: the mask has none there yet. Assumes nothing.
 use native.Mathlib.Omega.{arith}
-use borrow.Author.Needs.{needs}
 use Rattle.base.proofs.Masks.{bit-in}
-use Rattle.listing.proofs.with_bit.Statement.{statement}
-use Rattle.listing.proofs.with_bit.Tie as tie
+use borrow.Author.Needs.{needs}
+use Rattle.masks.proofs.with_bit.Statement.{statement}
+use Rattle.masks.proofs.with_bit.Tie as tie
 
 shl-result : tie.Need-shl-result
 shl-result c = search needs
 
 returns : tie.Need-returns
-returns c =
-    let a = c .before .args in
-    rw (c .if1 .taken) (bit-in (a .mask) (a .j) (omega arith) (omega arith))
+returns c = rw (c .if1 .taken) (bit-in _ _ (c .before .pre .0) (c .before .pre .1))
 
 returns-2 : tie.Need-returns-2
 returns-2 c = rw (c .if1 .left) (omega arith)

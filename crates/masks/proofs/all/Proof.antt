@@ -7,8 +7,8 @@ use lib.Pow.{pow-pos}
 use borrow.Author.Needs.{needs}
 use Rattle.base.specs.Masks.{wordBits, maskOf}
 use Rattle.base.proofs.Masks.{mask-all, shifted}
-use Rattle.writer.proofs.all.Statement.{statement}
-use Rattle.writer.proofs.all.Tie as tie
+use Rattle.masks.proofs.all.Statement.{statement}
+use Rattle.masks.proofs.all.Tie as tie
 
 returns : tie.Need-returns
 returns c = sym (ap (maskOf (λ k. true)) (c .if1 .taken) ∙ mask-all wordBits)

@@ -13,21 +13,23 @@ use Rattle.image.proofs.Refusing.{first-passes, number-of}
 use Rattle.writer.specs.Writing.{Wrote}
 use Rattle.writer.proofs.Programs.{good-source}
 use Rattle.carry.specs.declared.Next.the-variants.{Length}
-use Rattle.carry.specs.Next.{isCarried, carriedCount, nextImage, lentRefusal, sizeRefusal, nextRefusal, NextSays}
+use Rattle.slot.specs.declared.Group.the-variants.{Carried}
+use Rattle.area.specs.Layout.{inGroup}
+use Rattle.carry.specs.Next.{carriedCount, nextImage, lentRefusal, sizeRefusal, nextRefusal, NextSays}
 use Rattle.carry.specs.Sources.{Sources, imageFrom}
 use Rattle.carry.proofs.Sources.{carried-counted, from-is}
 use Rattle.carry.proofs.Checks.{lent-shows, size-shows, next-done}
 
-pub record Taken (image t a fresh : List ℕ) (n m mask programs : ℕ) : Type 0 where
+pub record Chosen (image t a fresh : List ℕ) (n m mask programs : ℕ) : Type 0 where
   pub lent : lentRefusal image t a fresh .number ≡ 0
   pub n-is : n ≡ countOf image
   pub m-is : m ≡ countOf fresh
-  pub mask-is : mask ≡ maskOf (isCarried (length t) a) n
+  pub mask-is : mask ≡ maskOf (inGroup Carried (length t) a) n
   pub counted : programs ≡ count (hasBit mask) n + m
 
-module _ {image t a fresh : List ℕ} {n m mask programs : ℕ} (k : Taken image t a fresh n m mask programs) where
-  pub taken-sources : Sources image n mask fresh m programs
-  taken-sources =
+module _ {image t a fresh : List ℕ} {n m mask programs : ℕ} (k : Chosen image t a fresh n m mask programs) where
+  pub chosen-sources : Sources image n mask fresh m programs
+  chosen-sources =
       let p = lent-shows image t a fresh (k .lent) in
       let old = good-source image (p .0 .accepted) n (k .n-is) mask in
       let new = good-source fresh (p .1) m (k .m-is) _ in
@@ -38,17 +40,17 @@ module _ {image t a fresh : List ℕ} {n m mask programs : ℕ} (k : Taken image
 
   -- r is what the checks 11 and 10 answer
   module _ (out : List ℕ) {r : Refusal} (says : r ≡ sizeRefusal programs (imageFrom image n mask fresh m) out) where
-    pub taken-size : r ≡ nextRefusal image t a fresh out
+    pub chosen-size : r ≡ nextRefusal image t a fresh out
     unfolding nextRefusal
-    taken-size =
+    chosen-size =
         let many : programs ≡ carriedCount (length t) (countOf image) a + countOf fresh =
         omega (arith, k .counted, k .m-is, carried-counted (length t) a image (k .n-is) (k .mask-is)) in
         first-passes refl (k .lent)
         (says ∙ ap (λ (i : List ℕ). sizeRefusal programs i out) image-is ∙ ap (λ (c : ℕ). sizeRefusal c (nextImage (length t) image a fresh) out) many)
 
     module _ (none : r .number ≡ 0) where
-      pub taken-fits : length (imageFrom image n mask fresh m) ≤ length out
-      taken-fits = size-shows programs (imageFrom image n mask fresh m) out (number-of (sym says) ∙ none) .1
+      pub chosen-fits : length (imageFrom image n mask fresh m) ≤ length out
+      chosen-fits = size-shows programs (imageFrom image n mask fresh m) out (number-of (sym says) ∙ none) .1
 
-      pub taken-done : {s : ℕ} {out′ : List ℕ} → Wrote out 0 (imageFrom image n mask fresh m) out′ s → NextSays image t a fresh out (Length s) out′
-      taken-done {s} {out′} w = next-done image t a fresh out r taken-size none (subst (λ (i : List ℕ). Wrote out 0 i out′ s) image-is w)
+      pub chosen-done : {s : ℕ} {out′ : List ℕ} → Wrote out 0 (imageFrom image n mask fresh m) out′ s → NextSays image t a fresh out (Length s) out′
+      chosen-done {s} {out′} w = next-done image t a fresh out r chosen-size none (subst (λ (i : List ℕ). Wrote out 0 i out′ s) image-is w)
