@@ -53,8 +53,8 @@ members-requires : tie.Need-members-requires
 members-requires c κs =
     measured _ _ _ (lent-shows _ _ _ _ (lent (c .before .before)) .0) _ (c .before .count .ensures .0)
 
-count3-requires : tie.Need-count3-requires
-count3-requires c κs = omega (arith, lent-shows _ _ _ _ (lent (c .before .before .before)) .0 .programs, c .before .before .count .ensures .0)
+count-requires-3 : tie.Need-count-requires-3
+count-requires-3 c κs = omega (arith, lent-shows _ _ _ _ (lent (c .before .before .before)) .0 .programs, c .before .before .count .ensures .0)
 
 add-programs : tie.Need-add-programs
 add-programs c = search needs
@@ -97,7 +97,7 @@ next-image-spec =
     count-requires
     count-requires-2
     members-requires
-    count3-requires
+    count-requires-3
     add-programs
     size-refusal-requires
     same-length
