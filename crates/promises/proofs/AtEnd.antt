@@ -12,20 +12,19 @@ use Rattle.base.specs.Words.{count, some, has, distinct}
 use Rattle.base.proofs.Bools.{known, clash, and-same}
 use Rattle.base.proofs.Counts.{count-ext}
 use Rattle.image.specs.Image.{countOf}
-use Rattle.slot.specs.States.{committed, carried}
+use Rattle.slot.specs.declared.Group.the-variants.{Committed, Carried}
+use Rattle.slot.specs.States.{waiting, committed, carried, isCommitted, isCarried, isDone, isIn}
 use Rattle.machine.specs.declared.Run.{Run}
 use Rattle.machine.specs.declared.Run.the-variants.{Finished, Rejected, Faulted}
-use Rattle.machine.specs.Runs.{stateOfRun}
-use Rattle.area.specs.Layout.{areaWords, stateAt, stateOf, readsOf, storesOf}
+use Rattle.machine.specs.Runs.{keeps, stateOfRun}
+use Rattle.area.specs.Layout.{areaWords, stateAt, stateOf, inGroup, readsOf, storesOf}
 use Rattle.area.specs.Checks.{Checked}
-use Rattle.listing.specs.Listing.{isCommitted, committedCount, orderOf, orderExists}
+use Rattle.listing.specs.Listing.{committedCount, orderOf, orderExists}
 use Rattle.listing.proofs.Taken.{listed-ext}
-use Rattle.carry.specs.Next.{isCarried}
-use Rattle.promises.specs.Paper.{Batch, batchOf, finishes, finished, readSet, writeSet, waw, raw, war, rule1, rule2, commits, stateAfter, tableAfter}
+use Rattle.promises.specs.Paper.{Batch, batchOf, keepsStores, getsSettled, readSet, writeSet, touches, rule1, rule2, commits, stateAfter, tableAfter}
 use Rattle.promises.specs.Laid.{World, all, paperWorld}
 use Rattle.promises.specs.History.{RunToEnd}
-use Rattle.promises.specs.Batches.{isDone}
-use Rattle.promises.proofs.Deciding.{commits-finished}
+use Rattle.promises.proofs.Deciding.{commits-keeps, settled-keeps}
 use Rattle.promises.proofs.Installing.{installed-length}
 use Rattle.promises.proofs.Stepping.{Opens, opens, checked-on}
 use Rattle.promises.proofs.Histories.{paper-end, paper-table, paper-state, paper-reads, paper-stores}
@@ -33,48 +32,73 @@ use Rattle.promises.proofs.PaperOrder.{paperOrder, order-members, order
 
 -- ---- how a program ends, by the paper
 
+-- a run that is not kept is neither committed nor carried: it is done with
+run-uncommitted : (r : Run) → keeps r ≡ false → isCommitted (stateOfRun r) ≡ false
+unfolding isCommitted
+run-uncommitted Finished e = refl
+run-uncommitted (Rejected code) e = refl
+run-uncommitted (Faulted kind at) e = refl
+
+run-uncarried : (r : Run) → keeps r ≡ false → isCarried (stateOfRun r) ≡ false
+unfolding isCarried
+run-uncarried Finished e = refl
+run-uncarried (Rejected code) e = refl
+run-uncarried (Faulted kind at) e = refl
+
+run-done : (r : Run) → keeps r ≡ false → isDone (stateOfRun r) ≡ not (isCarried (stateOfRun r))
+unfolding isDone isCommitted isCarried
+run-done Finished e = clash refl e
+run-done (Rejected code) e = refl
+run-done (Faulted kind at) e = refl
+
 module _ (b : Batch) (k : ℕ) where
-  pub committed-is : eqb (stateAfter b k) committed ≡ commits b k
+  -- each is shown of the answer that the run gave
+  by-answer : (P : ℕ → Bool → Bool → Type 0) → P committed true true → P carried true false
+      → ((r : Run) → keeps r ≡ false → P (stateOfRun r) false false) → P (stateAfter b k) (getsSettled b k) (commits b k)
   unfolding stateAfter
-  committed-is = go (b .runs k .answer) (commits b k) (commits-finished b k)
+  by-answer P x y z =
+      go (b .runs k .answer) refl (getsSettled b k) (settled-keeps b k) (commits b k) (commits-keeps b k)
     where
-      go : (r : Run) (c : Bool) → (c ≡ true → finishes r ≡ true) → eqb (cond (finishes r) (cond c committed carried) (stateOfRun r)) committed ≡ c
-      go Finished true h = refl
-      go Finished false h = refl
-      go (Rejected code) true h = clash (h refl) refl
-      go (Rejected code) false h = refl
-      go (Faulted kind at) true h = clash (h refl) refl
-      go (Faulted kind at) false h = refl
+      go : (r : Run) → r ≡ b .runs k .answer → (g : Bool) → g ≡ keeps (b .runs k .answer) → (c : Bool) → (c ≡ true → keeps (b .runs k .answer) ≡ true)
+          → P (cond g (cond c committed carried) (stateOfRun (b .runs k .answer))) g c
+      go r e true f true h = x
+      go r e true f false h = y
+      go r e false f true h = clash (h refl) (sym f)
+      go r e false f false h = z (b .runs k .answer) (sym f)
+
+  pub committed-is : isCommitted (stateAfter b k) ≡ commits b k
+  unfolding isCommitted
+  committed-is = by-answer (λ s g c. isCommitted s ≡ c) refl refl run-uncommitted
+
+  pub carried-is : isCarried (stateAfter b k) ≡ getsSettled b k && not (commits b k)
+  unfolding isCarried
+  carried-is = by-answer (λ s g c. isCarried s ≡ g && not c) refl refl run-uncarried
 
   -- committed, rejected and faulted are all the ends but one
-  pub done-is : isDone (stateAfter b k) ≡ not (eqb (stateAfter b k) carried)
-  unfolding stateAfter isDone
-  done-is = go (b .runs k .answer) (commits b k)
-    where
-      go : (r : Run) (c : Bool) → (let s = cond (finishes r) (cond c committed carried) (stateOfRun r) in isDone s ≡ not (eqb s carried))
-      go Finished true = refl
-      go Finished false = refl
-      go (Rejected code) c = refl
-      go (Faulted kind at) c = refl
+  pub done-is : isDone (stateAfter b k) ≡ not (isCarried (stateAfter b k))
+  unfolding isDone isCommitted isCarried
+  done-is = by-answer (λ s g c. isDone s ≡ not (isCarried s)) refl refl run-done
 
 -- nothing is earlier than program 0, so it has nothing against it
-pub zero-commits : (b : Batch) → commits b 0 ≡ finished b 0
-unfolding commits waw raw war some
-zero-commits b = go (finished b 0) (b .second)
+pub zero-commits : (b : Batch) → commits b 0 ≡ keepsStores b 0
+unfolding commits touches some
+zero-commits b = go (keepsStores b 0) (b .second)
   where
     go : (f second : Bool) → f && cond second (rule2 false false false) (rule1 false false) ≡ f
     go true true = refl
     go true false = refl
     go false second = refl
 
-pub zero-ends : (b : Batch) → eqb (stateAfter b 0) carried ≡ false
-unfolding stateAfter
-zero-ends b = rw zero-commits (go (b .runs 0 .answer))
+pub zero-ends : (b : Batch) → isCarried (stateAfter b 0) ≡ false
+zero-ends b = carried-is b 0 ∙ rw (zero-commits b, settled-keeps b 0) (go (keepsStores b 0))
   where
-    go : (r : Run) → eqb (cond (finishes r) (cond (finishes r) committed carried) (stateOfRun r)) carried ≡ false
-    go Finished = refl
-    go (Rejected code) = refl
-    go (Faulted kind at) = refl
+    go : (x : Bool) → x && not x ≡ false
+    go true = refl
+    go false = refl
+
+waiting-uncarried : isCarried waiting ≡ false
+unfolding isCarried
+waiting-uncarried = refl
 
 -- ---- and by the area
 
@@ -109,9 +133,13 @@ module _ {image t : List ℕ} {w : World} (end : PaperEnd image t w) where
   unfolding tableAfter
   end-sized = ap length (end .table-is) ∙ installed-length (batchOf image t) t (commits (batchOf image t)) (countOf image)
 
-  pub end-committed : (k : ℕ) → k < countOf image → isCommitted (length t) (w .area) k ≡ commits (batchOf image t) k
-  unfolding isCommitted
+  pub end-committed : (k : ℕ) → k < countOf image → inGroup Committed (length t) (w .area) k ≡ commits (batchOf image t) k
+  unfolding inGroup isIn
   end-committed k l = rw (end .state-is k l) (committed-is (batchOf image t) k)
+
+  pub end-carried : (k : ℕ) → k < countOf image → inGroup Carried (length t) (w .area) k ≡ isCarried (stateAfter (batchOf image t) k)
+  unfolding inGroup isIn
+  end-carried k l = ap isCarried (end .state-is k l)
 
   pub end-count : committedCount (length t) (countOf image) (w .area) ≡ count (commits (batchOf image t)) (countOf image)
   unfolding committedCount
@@ -131,21 +159,21 @@ module _ {image t : List ℕ} {w : World} (end : PaperEnd image t w) where
   pub end-distinct : distinct (orderOf (length t) (countOf image) (w .area)) ≡ true
   end-distinct = ap distinct end-order ∙ order-distinct (batchOf image t)
 
-  pub end-members : (k : ℕ) → has k (orderOf (length t) (countOf image) (w .area)) ≡ ltb k (countOf image) && isCommitted (length t) (w .area) k
+  pub end-members : (k : ℕ) → has k (orderOf (length t) (countOf image) (w .area)) ≡ ltb k (countOf image) && inGroup Committed (length t) (w .area) k
   end-members k =
       rw end-order (order-members (batchOf image t) k)
       ∙ and-same (ltb k (countOf image)) (λ e. sym (end-committed k (ltb-true k (countOf image) e)))
 
   -- a program that is not carried is done with
-  pub end-done : (k : ℕ) → k < countOf image → isDone (stateOf (length t) k (w .area)) ≡ not (isCarried (length t) (w .area) k)
-  unfolding isCarried
+  pub end-done : (k : ℕ) → k < countOf image → isDone (stateOf (length t) k (w .area)) ≡ not (inGroup Carried (length t) (w .area) k)
+  unfolding inGroup isIn
   end-done k l = rw (end .state-is k l) (done-is (batchOf image t) k)
 
   -- program 0 is not carried; where there is none, the area ends before its slot
-  pub end-zero : isCarried (length t) (w .area) 0 ≡ false
-  unfolding isCarried
+  pub end-zero : inGroup Carried (length t) (w .area) 0 ≡ false
+  unfolding inGroup isIn
   end-zero = go (known (ltb 0 (countOf image)))
     where
-      go : (ltb 0 (countOf image) ≡ true) ⊎ (ltb 0 (countOf image) ≡ false) → eqb (stateOf (length t) 0 (w .area)) carried ≡ false
+      go : (ltb 0 (countOf image) ≡ true) ⊎ (ltb 0 (countOf image) ≡ false) → isCarried (stateOf (length t) 0 (w .area)) ≡ false
       go (inl e) = rw (end .state-is 0 (ltb-true _ _ e)) (zero-ends (batchOf image t))
-      go (inr e) = rw (state-past (length t) (countOf image) 0 (w .area) (rw end-sized at (end .checks .sized)) (ltb-false _ _ e))
+      go (inr e) = ap isCarried (state-past (length t) (countOf image) 0 (w .area) (rw end-sized at (end .checks .sized)) (ltb-false _ _ e)) ∙ waiting-uncarried

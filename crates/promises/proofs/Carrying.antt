@@ -12,16 +12,18 @@ use Rattle.base.proofs.Bools.{known, clash}
 use Rattle.base.proofs.Counts.{count-below, count-misses}
 use Rattle.base.proofs.Numbers.{zero-or, below}
 use Rattle.image.specs.Image.{countOf, partOf}
-use Rattle.slot.specs.States.{carried}
-use Rattle.carry.specs.Next.{isCarried, carriedCount}
+use Rattle.slot.specs.declared.Group.the-variants.{Carried}
+use Rattle.slot.specs.States.{carried, isDone, isCarried, isIn}
+use Rattle.area.specs.Layout.{inGroup}
+use Rattle.carry.specs.Next.{carriedCount}
 use Rattle.carry.proofs.Nexts.{next-count, next-carried-at}
 use Rattle.promises.specs.Laid.{World}
-use Rattle.promises.specs.Batches.{Batches, stateIn, placeOf, isDone, EndsWithin}
+use Rattle.promises.specs.Batches.{Batches, stateIn, placeOf, EndsWithin}
 use Rattle.promises.proofs.AtEnd.{paper-ends, end-sized, end-done, end-zero}
 
 -- program q of batch i is carried
 abbrev carriedIn : (ℕ → World) → ℕ → ℕ → Bool
-carriedIn worlds i q = isCarried (length (worlds i .table)) (worlds i .area) q
+carriedIn worlds i q = inGroup Carried (length (worlds i .table)) (worlds i .area) q
 
 -- what holds below i and at i holds below i + 1
 one-more : (P : ℕ → Type 0) (i : ℕ) → ((j : ℕ) → j < i → P j) → P i → (j : ℕ) → j < suc i → P j
@@ -78,7 +80,7 @@ module _ {p : ℕ} {images tables : ℕ → List ℕ} {worlds : ℕ → World} (
       }
 
   comes-on : (i : ℕ) → Comes i → carriedIn worlds i (placeOf worlds p i) ≡ true → Comes (suc i)
-  unfolding placeOf isCarried
+  unfolding placeOf inGroup isIn isCarried
   comes-on i c e =
       let q = placeOf worlds p i in
       let l : q < countOf (images i) = c .stands-so-far i (omega arith) in

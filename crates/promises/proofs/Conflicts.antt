@@ -10,14 +10,14 @@ use Rattle.base.specs.Words.{meets}
 use Rattle.base.proofs.Bools.{known, clash, and-both}
 use Rattle.base.proofs.Members.{meets-in, meets-out}
 use Rattle.base.proofs.Somes.{some-none}
-use Rattle.promises.specs.Paper.{Batch, finished, readSet, writeSet, waw, raw, war, rule1, rule2, commits}
+use Rattle.promises.specs.Paper.{Batch, keepsStores, readSet, writeSet, touches, waw, raw, war, rule1, rule2, commits}
 
 -- Rule 2's second condition, which what commits under Rule 1 meets too
 pub commits-not-both : (b : Batch) (k : ℕ) → commits b k ≡ true → (raw b k ≡ false) ⊎ (war b k ≡ false)
 unfolding commits
 commits-not-both b k e =
     go (b .second) (waw b k) (raw b k) (war b k)
-    (and-both (finished b k) (cond (b .second) (rule2 (waw b k) (raw b k) (war b k)) (rule1 (waw b k) (raw b k))) e .1)
+    (and-both (keepsStores b k) (cond (b .second) (rule2 (waw b k) (raw b k) (war b k)) (rule1 (waw b k) (raw b k))) e .1)
   where
     go : (second waw raw war : Bool) → cond second (rule2 waw raw war) (rule1 waw raw) ≡ true → (raw ≡ false) ⊎ (war ≡ false)
     go true true raw war e = clash e refl
@@ -32,7 +32,7 @@ pub rule1-no-raw : (b : Batch) (k : ℕ) → b .second ≡ false → commits b k
 unfolding commits
 rule1-no-raw b k s e =
     go (b .second) (waw b k) (raw b k) (war b k) s
-    (and-both (finished b k) (cond (b .second) (rule2 (waw b k) (raw b k) (war b k)) (rule1 (waw b k) (raw b k))) e .1)
+    (and-both (keepsStores b k) (cond (b .second) (rule2 (waw b k) (raw b k) (war b k)) (rule1 (waw b k) (raw b k))) e .1)
   where
     go : (second waw raw war : Bool) → second ≡ false → cond second (rule2 waw raw war) (rule1 waw raw) ≡ true → raw ≡ false
     go true waw raw war s e = clash refl s
@@ -44,7 +44,7 @@ rule1-no-raw b k s e =
 
 -- without RAW j reads nothing that an earlier program stores
 pub no-raw-upward : (b : Batch) (i j : ℕ) → raw b j ≡ false → meets (readSet b j) (writeSet b i) ≡ true → j ≤ i
-unfolding raw
+unfolding touches
 no-raw-upward b i j e h = go (known (ltb i j))
   where
     go : (ltb i j ≡ true) ⊎ (ltb i j ≡ false) → j ≤ i
@@ -53,7 +53,7 @@ no-raw-upward b i j e h = go (known (ltb i j))
 
 -- without WAR i stores nothing that an earlier program reads
 pub no-war-downward : (b : Batch) (i j : ℕ) → war b i ≡ false → meets (readSet b j) (writeSet b i) ≡ true → i ≤ j
-unfolding war
+unfolding touches
 no-war-downward b i j e h = go (known (ltb j i))
   where
     go : (ltb j i ≡ true) ⊎ (ltb j i ≡ false) → i ≤ j

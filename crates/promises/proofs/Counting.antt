@@ -1,42 +1,52 @@
 -- The counts that the calls return are the states' own, for any image, table and area. Assumes nothing.
-use Prim.Native.Nat.{ℕ, zero, suc, _+_}
+use Prim.Native.Nat.{ℕ, _+_}
 use mathlib.Core.Path.{_≡_, refl, _∙_, ap}
 use mathlib.Core.Bool.{Bool, true, false, cond}
 use mathlib.Core.List.{List, _++_}
 use native.Mathlib.Omega.{arith}
 use lib.ListN.{length, drop, length-append}
 use borrow.Author.Tests.{eqb-true}
-use Rattle.base.specs.Words.{count, unless}
-use Rattle.base.proofs.Calls.{unless-none}
+use Rattle.base.specs.Words.{count}
 use Rattle.base.proofs.Counts.{count-all}
 use Rattle.image.specs.Limits.{headBytes}
 use Rattle.image.specs.Image.{numberAt, countOf}
-use Rattle.image.specs.Refusals.{noOrder, refusing, noCount, counted}
+use Rattle.image.specs.declared.Refusal.{Refusal}
+use Rattle.image.specs.Refusals as refusal
+use Rattle.image.specs.Refusals.{passes, unless, Counted, noCount, counted}
+use Rattle.image.proofs.Refusing.{none-fails, none-after, unless-done}
+use Rattle.slot.specs.declared.Group.the-variants.{Carried}
+use Rattle.area.specs.Layout.{inGroup}
 use Rattle.listing.specs.declared.Listed.the-variants.{Refused, Count}
 use Rattle.listing.specs.Listing.{committedCount, orderOf, orderExists, listRefusal, orderRefusal, orderAnswer, numbersOfListed}
 use Rattle.carry.specs.declared.Next.the-variants as carrying
 use Rattle.writer.specs.Joined.{number, joined, imageOf}
-use Rattle.carry.specs.Next.{isCarried, carriedCount, nextPrograms, nextImage, nextRefusal, nextAnswer, nextOut, numbersOfNext}
+use Rattle.carry.specs.Next.{carriedCount, nextPrograms, nextImage, nextRefusal, nextAnswer, nextOut, numbersOfNext}
 use Rattle.writer.proofs.Programs.{picked-count, length-image}
 use Rattle.carry.proofs.Nexts.{next-count}
 
 -- where the order is not refused, it has as many as are committed
-not-refused : (image t a list : List ℕ) → orderRefusal image t a list ≡ 0
+not-refused : (image t a list : List ℕ) → orderRefusal image t a list .number ≡ 0
     → length (orderOf (length t) (countOf image) a) ≡ committedCount (length t) (countOf image) a
 unfolding orderRefusal orderExists
-not-refused image t a list e = go (orderExists (length t) (countOf image) a) refl (unless-none (listRefusal image t a list) _ e .1)
+not-refused image t a list e =
+    eqb-true _ _ (none-fails (orderExists (length t) (countOf image) a) refusal.noOrder _ (λ z. omega arith) (none-after (listRefusal image t a list) _ e .1) .0)
+
+-- the numbers of an answer, refused or done
+numbers-unless : {A : Type 0} (f : A → Counted) (r : Refusal) (refused : Refusal → A) (done : A) (c : Counted) → f (refused r) ≡ noCount r
+    → (r .number ≡ 0 → f done ≡ c) → f (unless r refused done) ≡ unless r noCount c
+unfolding unless
+numbers-unless f r refused done c p q = go (passes r) refl
   where
-    go : (b : Bool) → orderExists (length t) (countOf image) a ≡ b → cond b 0 noOrder ≡ 0
-        → length (orderOf (length t) (countOf image) a) ≡ committedCount (length t) (countOf image) a
-    go true f z = eqb-true _ _ f
-    go false f z = absurd (omega arith)
+    go : (b : Bool) → passes r ≡ b → f (cond b done (refused r)) ≡ cond b c (noCount r)
+    go true e = q (eqb-true _ _ e)
+    go false e = p
 
 -- the carried programs and the fresh ones; and the bytes that they, their offsets and the header take
 next-many : (T : ℕ) (image a fresh : List ℕ) → length (nextPrograms T image a fresh) ≡ carriedCount T (countOf image) a + countOf fresh
 unfolding nextPrograms carriedCount
 next-many T image a fresh =
-    rw (length-append, picked-count (isCarried T a) image (countOf image), picked-count (λ k. true) fresh (countOf fresh))
-    (ap (λ (m : ℕ). count (isCarried T a) (countOf image) + m) (count-all (λ k. true) (countOf fresh) (λ i l. refl)))
+    rw (length-append, picked-count (inGroup Carried T a) image (countOf image), picked-count (λ k. true) fresh (countOf fresh))
+    (ap (λ (m : ℕ). count (inGroup Carried T a) (countOf image) + m) (count-all (λ k. true) (countOf fresh) (λ i l. refl)))
 
 next-bytes : (T : ℕ) (image a fresh : List ℕ)
     → length (nextImage T image a fresh) ≡ headBytes (carriedCount T (countOf image) a + countOf fresh) + length (joined (nextPrograms T image a fresh))
@@ -52,13 +62,9 @@ count-in-front T image a fresh rest = refl
 pub order-counts : (image t a list : List ℕ)
     → numbersOfListed (orderAnswer image t a list) ≡ unless (orderRefusal image t a list) noCount (counted (committedCount (length t) (countOf image) a))
 unfolding orderAnswer
-order-counts image t a list = go (orderRefusal image t a list) refl
-  where
-    go : (r : ℕ) → orderRefusal image t a list ≡ r
-        → numbersOfListed (unless r (λ r. Refused (refusing r)) (Count (length (orderOf (length t) (countOf image) a))))
-        ≡ unless r noCount (counted (committedCount (length t) (countOf image) a))
-    go zero e = ap counted (not-refused image t a list e)
-    go (suc r) e = refl
+order-counts image t a list =
+    numbers-unless numbersOfListed (orderRefusal image t a list) Refused (Count (length (orderOf (length t) (countOf image) a))) _ refl
+    (λ e. ap counted (not-refused image t a list e))
 
 -- the next image returns "its length": the header and the offsets for the carried and the fresh programs, and these programs' bytes
 pub next-length : (image t a fresh out : List ℕ)
@@ -66,16 +72,14 @@ pub next-length : (image t a fresh out : List ℕ)
     ≡ unless (nextRefusal image t a fresh out) noCount
     (counted (headBytes (carriedCount (length t) (countOf image) a + countOf fresh) + length (joined (nextPrograms (length t) image a fresh))))
 unfolding nextAnswer
-next-length image t a fresh out = rw (← next-bytes (length t) image a fresh) (go (nextRefusal image t a fresh out))
-  where
-    go : (r : ℕ) → numbersOfNext (unless r (λ r. carrying.Refused (refusing r)) (carrying.Length (length (nextImage (length t) image a fresh))))
-        ≡ unless r noCount (counted (length (nextImage (length t) image a fresh)))
-    go zero = refl
-    go (suc r) = refl
+next-length image t a fresh out =
+    numbers-unless numbersOfNext (nextRefusal image t a fresh out) carrying.Refused (carrying.Length (length (nextImage (length t) image a fresh))) _ refl
+    (λ e. ap counted (next-bytes (length t) image a fresh))
 
 -- the next image has as many programs as are carried, and the fresh ones
-pub next-counts : (image t a fresh out : List ℕ) → nextRefusal image t a fresh out ≡ 0
+pub next-counts : (image t a fresh out : List ℕ) → nextRefusal image t a fresh out .number ≡ 0
     → countOf (nextOut image t a fresh out) ≡ carriedCount (length t) (countOf image) a + countOf fresh
 unfolding nextOut
 next-counts image t a fresh out e =
-    rw e (count-in-front (length t) image a fresh (drop (length (nextImage (length t) image a fresh)) out) ∙ next-count image t a fresh out e)
+    rw (unless-done (nextRefusal image t a fresh out) (λ r. out) _ e)
+    (count-in-front (length t) image a fresh (drop (length (nextImage (length t) image a fresh)) out) ∙ next-count image t a fresh out e)

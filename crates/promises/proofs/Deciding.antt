@@ -8,28 +8,41 @@ use Rattle.base.specs.Words.{meets}
 use Rattle.base.proofs.Bools.{and-left, and-right}
 use Rattle.base.proofs.Members.{meets-swap}
 use Rattle.base.proofs.Somes.{some-none}
-use Rattle.slot.specs.States.{committed, carried}
+use Rattle.slot.specs.States.{committed, carried, canSettle}
+use Rattle.machine.specs.declared.Run.{Run}
+use Rattle.machine.specs.declared.Run.the-variants.{Finished, Rejected, Faulted}
+use Rattle.machine.specs.Runs.{keeps, stateOfRun}
 use Rattle.steps.specs.declared.Reason.the-variants.{Waw, Raw, RawWithWar}
 use Rattle.steps.specs.declared.Settled.{Settled}
 use Rattle.steps.specs.declared.Settled.the-variants.{Committed, Carried}
 use Rattle.steps.specs.Answers.{reasonNumber, numbersOfSettled}
 use Rattle.steps.specs.Settling.{byRule1, byRule2, decided}
-use Rattle.promises.specs.Paper.{Batch, writeSet, finished, waw, war, raw, rule1, rule2, commits, reason, stateAfter, detailAfter}
+use Rattle.promises.specs.Paper.{Batch, writeSet, keepsStores, getsSettled, touches, waw, war, raw, rule1, rule2, commits, reason, stateAfter, detailAfter}
 
 -- ---- what a commit tells
 
 module _ (b : Batch) (k : ℕ) where
-  -- what the rule in force says, apart from finishing
+  -- what the rule in force says, apart from what the run kept
   abbrev byRule : Bool
   byRule = cond (b .second) (rule2 (waw b k) (raw b k) (war b k)) (rule1 (waw b k) (raw b k))
 
-  pub commits-finished : commits b k ≡ true → finished b k ≡ true
+  pub commits-keeps : commits b k ≡ true → keepsStores b k ≡ true
   unfolding commits
-  commits-finished e = and-left (finished b k) byRule e
+  commits-keeps e = and-left (keepsStores b k) byRule e
+
+  -- who keeps its stores is settled, and nobody else is
+  pub settled-keeps : getsSettled b k ≡ keepsStores b k
+  unfolding getsSettled canSettle
+  settled-keeps = go (b .runs k .answer)
+    where
+      go : (r : Run) → canSettle (stateOfRun r) ≡ keeps r
+      go Finished = refl
+      go (Rejected code) = refl
+      go (Faulted kind at) = refl
 
   pub commits-waw : commits b k ≡ true → waw b k ≡ false
   unfolding commits
-  commits-waw e = go (b .second) (waw b k) (raw b k) (war b k) (and-right (finished b k) byRule e)
+  commits-waw e = go (b .second) (waw b k) (raw b k) (war b k) (and-right (keepsStores b k) byRule e)
     where
       go : (second w r v : Bool) → cond second (rule2 w r v) (rule1 w r) ≡ true → w ≡ false
       go true true r v h = sym h
@@ -39,7 +52,7 @@ module _ (b : Batch) (k : ℕ) where
 
 -- two programs that commit store no common cell: the later one would have WAW
 pub no-common : (b : Batch) (j k : ℕ) → (j ≡ k → ⊥) → commits b j ≡ true → commits b k ≡ true → meets (writeSet b j) (writeSet b k) ≡ false
-unfolding waw
+unfolding touches
 no-common b j k apart cj ck = go (decLt j k)
   where
     go : Dec (j < k) → meets (writeSet b j) (writeSet b k) ≡ false
@@ -52,11 +65,11 @@ no-common b j k apart cj ck = go (decLt j k)
 unfoldable pub decisionOn : Batch → ℕ → Settled
 decisionOn b k = cond (commits b k) Committed (Carried (reason b k))
 
-module _ (b : Batch) (k : ℕ) (f : finished b k ≡ true) where
+module _ (b : Batch) (k : ℕ) (f : getsSettled b k ≡ true) where
   -- the rules of the call are the paper's
   pub decided-is : decided (b .second) (waw b k) (raw b k) (war b k) ≡ decisionOn b k
   unfolding decided byRule1 byRule2 decisionOn commits reason
-  decided-is = rw f (go (b .second) (waw b k) (raw b k) (war b k))
+  decided-is = rw (sym (settled-keeps b k) ∙ f) (go (b .second) (waw b k) (raw b k) (war b k))
     where
       go : (second w r v : Bool)
           → cond second (cond w (Carried Waw) (cond (r && v) (Carried RawWithWar) Committed)) (cond w (Carried Waw) (cond r (Carried Raw) Committed))

@@ -1,19 +1,21 @@
 -- A world on the way, read by the states of its own area: who is gathered and settled in it, and when it is at its end. Assumes nothing.
-use mathlib.Core.Path.{_≡_, sym, ap, _∙_}
+use mathlib.Core.Path.{_≡_, refl, sym, ap, _∙_}
 use mathlib.Core.Logic.{_⊎_, inl, inr}
 use mathlib.Core.Bool.{Bool, true, false, not, _&&_}
 use mathlib.Core.List.{List}
-use Prim.Native.Nat.{ℕ, _<_}
+use Prim.Native.Nat.{ℕ, suc, _<_}
 use lib.ListN.{length}
-use borrow.Author.Tests.{eqb-true}
+use native.Mathlib.Omega.{arith}
+use lib.Dec.{leb}
+use borrow.Author.Tests.{le-leb}
 use Rattle.base.specs.Words.{every}
 use Rattle.base.proofs.Bools.{known, clash, and-both, both-and, nots, no-not, not-true, not-false}
-use Rattle.base.proofs.Numbers.{every-at, every-from, every-ext}
+use Rattle.base.proofs.Numbers.{zero-or, every-at, every-from, every-ext}
 use Rattle.image.specs.Image.{countOf, refusalOf}
-use Rattle.slot.specs.States.{waiting, isEnd}
+use Rattle.slot.specs.States.{waiting, gathered, hasRun, isEnd, isSettled, isCommitted, isCarried}
 use Rattle.area.specs.Layout.{stateOf}
-use Rattle.area.specs.Checks.{allEnded}
-use Rattle.promises.specs.Paper.{Batch, batchOf, finished}
+use Rattle.area.specs.Checks.{statesFrom}
+use Rattle.promises.specs.Paper.{Batch, batchOf, getsSettled}
 use Rattle.promises.specs.Laid.{areaOn, worldOn, all, paperWorld, gatheredIn, settledIn}
 use Rattle.promises.specs.History.{isOver}
 use Rattle.promises.proofs.Installing.{table-length, table-ext}
@@ -21,13 +23,13 @@ use Rattle.promises.proofs.SlotLaws.{by-ended}
 use Rattle.promises.proofs.Views.{on-ext, state-on, gathered-on, settled-on}
 use Rattle.promises.proofs.Stepping.{runs-fit, Phased}
 
--- the sets decide the world: of the settled ones only those that finished count
+-- the sets decide the world: of the settled ones only those count that are settled at all
 pub world-ext : (image t : List ℕ) (G S G′ S′ : ℕ → Bool) → ((k : ℕ) → k < countOf image → G k ≡ G′ k)
-    → ((k : ℕ) → k < countOf image → finished (batchOf image t) k ≡ true → S k ≡ S′ k) → worldOn image t G S ≡ worldOn image t G′ S′
+    → ((k : ℕ) → k < countOf image → getsSettled (batchOf image t) k ≡ true → S k ≡ S′ k) → worldOn image t G S ≡ worldOn image t G′ S′
 world-ext image t G S G′ S′ g s =
     λ i. record { table = table-ext (batchOf image t) t S S′ s i; area = on-ext (batchOf image t) G S G′ S′ (length t) g s i }
 
-module _ (image t : List ℕ) (e : refusalOf image ≡ 0) (G S : ℕ → Bool) where
+module _ (image t : List ℕ) (e : refusalOf image .number ≡ 0) (G S : ℕ → Bool) where
   abbrev b : Batch
   b = batchOf image t
 
@@ -46,34 +48,39 @@ module _ (image t : List ℕ) (e : refusalOf image ≡ 0) (G S : ℕ → Bool) w
       go k l (inl g) = rw g
       go k l (inr g) = rw g (sym (phased k k l l g))
 
-  ended-is : isOver image (worldOn image t G S) ≡ every (countOf image) (λ k. G k && not ((G k && not (S k)) && finished b k))
-  unfolding isOver allEnded
+  ended-is : isOver image (worldOn image t G S) ≡ every (countOf image) (λ k. G k && not ((G k && not (S k)) && getsSettled b k))
+  unfolding isOver statesFrom isEnd
   ended-is =
       rw (table-length b t S)
       (every-ext (countOf image) _ _ (λ k l. ap isEnd (state-on b G S (length t) (runs-fit image t e) k l) ∙ by-ended b k (G k) (S k)))
 
-  -- it is over exactly when everybody is gathered and everybody who finished is settled
-  pub over-shows : isOver image (worldOn image t G S) ≡ true → (k : ℕ) → k < countOf image → (G k ≡ true) × (finished b k ≡ true → S k ≡ true)
+  -- it is over exactly when everybody is gathered and everybody who is to be settled is
+  pub over-shows : isOver image (worldOn image t G S) ≡ true → (k : ℕ) → k < countOf image → (G k ≡ true) × (getsSettled b k ≡ true → S k ≡ true)
   over-shows h k l =
-      let w = and-both (G k) (not ((G k && not (S k)) && finished b k)) (every-at (countOf image) _ (sym ended-is ∙ h) k l) in
+      let w = and-both (G k) (not ((G k && not (S k)) && getsSettled b k)) (every-at (countOf image) _ (sym ended-is ∙ h) k l) in
       (w .0, λ f. not-false (λ s. clash (both-and (both-and (w .0) (no-not s)) f) (nots _ (w .1))))
 
-  pub over-is : ((k : ℕ) → k < countOf image → (G k ≡ true) × (finished b k ≡ true → S k ≡ true)) → isOver image (worldOn image t G S) ≡ true
+  pub over-is : ((k : ℕ) → k < countOf image → (G k ≡ true) × (getsSettled b k ≡ true → S k ≡ true)) → isOver image (worldOn image t G S) ≡ true
   over-is h =
       ended-is
-      ∙ every-from (countOf image) _ (λ k l. let w = h k l in both-and (w .0) (no-not (not-true (λ q. go k (w .1) (and-both (G k && not (S k)) (finished b k) q)))))
+      ∙ every-from (countOf image) _ (λ k l. let w = h k l in both-and (w .0) (no-not (not-true (λ q. go k (w .1) (and-both (G k && not (S k)) (getsSettled b k) q)))))
     where
-      go : (k : ℕ) → (finished b k ≡ true → S k ≡ true) → (G k && not (S k) ≡ true) × (finished b k ≡ true) → ⊥
+      go : (k : ℕ) → (getsSettled b k ≡ true → S k ≡ true) → (G k && not (S k) ≡ true) × (getsSettled b k ≡ true) → ⊥
       go k s w = clash (s (w .1)) (nots (S k) (and-both (G k) (not (S k)) (w .0) .1))
 
   -- and then it is the paper's
   pub over-paper : isOver image (worldOn image t G S) ≡ true → worldOn image t G S ≡ paperWorld image t
   over-paper h = world-ext image t G S all all (λ k l. over-shows h k l .0) (λ k l f. over-shows h k l .1 f)
 
+waiting-unsettled : isSettled waiting ≡ false
+unfolding isSettled isCommitted isCarried
+waiting-unsettled = refl
+
 -- a settled state is no waiting one
 pub settled-gathered : (T : ℕ) (a : List ℕ) (k : ℕ) → settledIn T a k ≡ true → gatheredIn T a k ≡ true
-unfolding settledIn gatheredIn
-settled-gathered T a k s = no-not (not-true (λ q. go (eqb-true (stateOf T k a) waiting q)))
+unfolding settledIn gatheredIn hasRun
+settled-gathered T a k s = go (zero-or (stateOf T k a)) s
   where
-    go : stateOf T k a ≡ waiting → ⊥
-    go q = clash s (rw q)
+    go : (stateOf T k a ≡ 0) ⊎ ((i : ℕ) × (stateOf T k a ≡ suc i)) → isSettled (stateOf T k a) ≡ true → leb gathered (stateOf T k a) ≡ true
+    go (inl e) h = clash h (ap isSettled e ∙ waiting-unsettled)
+    go (inr e) h = le-leb gathered (stateOf T k a) (omega (arith, e .1))

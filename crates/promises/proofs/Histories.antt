@@ -7,19 +7,21 @@ use lib.ListN.{length, replicate}
 use Rattle.base.specs.Words.{words, tabulate, has}
 use Rattle.image.specs.Image.{countOf, refusalOf}
 use Rattle.slot.specs.Layout.{slotWords}
-use Rattle.slot.specs.Log.{layout}
-use Rattle.slot.specs.Log.{logOf as logIn}
+use Rattle.slot.specs.declared.ListKind.the-variants.{Reads, Stores}
+use Rattle.slot.specs.Log.{layout, logOf}
 use Rattle.machine.specs.Runs.{slotOf}
-use Rattle.area.specs.Layout.{writeMarks, readMarks, stateOf, detailOf, slotAt, readsOf, storesOf, valuesOf}
+use Rattle.area.specs.declared.MarkKind.{MarkKind}
+use Rattle.area.specs.declared.MarkKind.the-variants.{Write, Read}
+use Rattle.area.specs.Layout.{marksAt, stateOf, detailOf, slotAt, readsOf, storesOf, valuesOf}
 use Rattle.area.specs.Checks.{callRefusal, openRefusal}
 use Rattle.steps.specs.Gathering.{runAt}
 use Rattle.listing.specs.Listing.{orderOf}
-use Rattle.promises.specs.Paper.{batchOf, logOf, readSet, writeSet, written, finished, stateAfter, detailAfter, tableAfter}
-use Rattle.promises.specs.Laid.{World, writeMark, readMark, slotOn, tableOn, worldOn, all, paperWorld, gatheredIn, settledIn}
+use Rattle.promises.specs.Paper.{batchOf, sets, readSet, writeSet, newValues, getsSettled, stateAfter, detailAfter, tableAfter}
+use Rattle.promises.specs.Laid.{World, markOn, slotOn, tableOn, worldOn, all, paperWorld, gatheredIn, settledIn}
 use Rattle.promises.specs.History.{Step, gather, settle, worldAfter, isOver, Whole, RunToEnd}
 use Rattle.promises.proofs.Installing.{table-opening}
 use Rattle.promises.proofs.SlotLaws.{stateBy, detailBy, logBy}
-use Rattle.promises.proofs.Views.{Fitting, write-marks-on, read-marks-on, slot-on, gathered-on, log-on, state-on, detail-on, reads-on, stores-on, values-on}
+use Rattle.promises.proofs.Views.{Fitting, marks-on, slot-on, gathered-on, log-on, state-on, detail-on, list-on, values-on}
 use Rattle.promises.proofs.Stepping.{opens, Phased, runs-fit, call-on}
 use Rattle.promises.proofs.Progress.{Progress, none-yet, movedBy, moved-append, gathered-keeps, gathers-gathered, settles-settled, gathers-each, settles-each}
 use Rattle.promises.proofs.Playing.{reached, reached-phased, world-reached}
@@ -48,7 +50,7 @@ pub paper-table : (image t : List ℕ) → paperWorld image t .table ≡ tableAf
 unfolding tableOn tableAfter
 paper-table image t = refl
 
-module _ (image t : List ℕ) (accepted : refusalOf image ≡ 0) (k : ℕ) (number : k < countOf image) where
+module _ (image t : List ℕ) (accepted : refusalOf image .number ≡ 0) (k : ℕ) (number : k < countOf image) where
   pub paper-state : stateOf (length t) k (paperWorld image t .area) ≡ stateAfter (batchOf image t) k
   unfolding stateBy
   paper-state = state-on (batchOf image t) all all (length t) (runs-fit image t accepted) k number
@@ -59,13 +61,13 @@ module _ (image t : List ℕ) (accepted : refusalOf image ≡ 0) (k : ℕ) (numb
 
   pub paper-reads : readsOf (length t) k (paperWorld image t .area) ≡ readSet (batchOf image t) k
   unfolding logBy
-  paper-reads = reads-on (batchOf image t) all all (length t) (runs-fit image t accepted) k number
+  paper-reads = list-on (batchOf image t) all all (length t) (runs-fit image t accepted) k number Reads
 
   pub paper-stores : storesOf (length t) k (paperWorld image t .area) ≡ writeSet (batchOf image t) k
   unfolding logBy
-  paper-stores = stores-on (batchOf image t) all all (length t) (runs-fit image t accepted) k number
+  paper-stores = list-on (batchOf image t) all all (length t) (runs-fit image t accepted) k number Stores
 
-  pub paper-values : valuesOf (length t) k (paperWorld image t .area) ≡ written (batchOf image t) k
+  pub paper-values : valuesOf (length t) k (paperWorld image t .area) ≡ newValues (batchOf image t) k
   unfolding logBy
   paper-values = values-on (batchOf image t) all all (length t) (runs-fit image t accepted) k number
 
@@ -73,7 +75,7 @@ module _ (image t : List ℕ) (accepted : refusalOf image ≡ 0) (k : ℕ) (numb
 
 -- Every history in which each program's gathering stands somewhere, and later each gathered program's settling, has ended, whatever refused, repeated
 -- or out-of-range steps stand in between.
-pub whole-ends : (image t found : List ℕ) → openRefusal image t found ≡ 0 → (first second : List Step) → Whole image t first second
+pub whole-ends : (image t found : List ℕ) → openRefusal image t found .number ≡ 0 → (first second : List Step) → Whole image t first second
     → isOver image (worldAfter image t found (first ++ second)) ≡ true
 whole-ends image t found e first second whole =
     let n : ℕ = countOf image in
@@ -84,14 +86,14 @@ whole-ends image t found e first second whole =
     (λ k l. (gathered-keeps n k second p (gathered k l), λ f. settles-settled n k second p gathered (whole .all-settled k l f))))
 
 -- so it is a batch run to its end
-pub whole-run : (image t found : List ℕ) → openRefusal image t found ≡ 0 → (first second : List Step) → Whole image t first second
+pub whole-run : (image t found : List ℕ) → openRefusal image t found .number ≡ 0 → (first second : List Step) → Whole image t first second
     → RunToEnd image t (worldAfter image t found (first ++ second))
 whole-run image t found e first second whole =
     record { found = found; history = first ++ second; opens = e; plays = refl; over = whole-ends image t found e first second whole }
 
--- The programs' numbers in any order, each gathered and then each that finished settled, are such a history: "each once" is one of them.
+-- The programs' numbers in any order, each gathered and then each that is to be settled settled, are such a history: "each once" is one of them.
 pub orders-whole : (image t gathering settling : List ℕ) → ((k : ℕ) → k < countOf image → has k gathering ≡ true)
-    → ((k : ℕ) → k < countOf image → finished (batchOf image t) k ≡ true → has k settling ≡ true)
+    → ((k : ℕ) → k < countOf image → getsSettled (batchOf image t) k ≡ true → has k settling ≡ true)
     → Whole image t (map gather gathering) (map settle settling)
 orders-whole image t gathering settling g s =
     record { all-gathered = λ k l. gathers-each k gathering ∙ g k l; all-settled = λ k l f. settles-each k settling ∙ s k l f }
@@ -99,7 +101,7 @@ orders-whole image t gathering settling g s =
 -- Demand 3: "Open a batch, gather every program once, then settle every gathered program once, in any two orders, refused steps between them included,
 -- with nobody else changing image, table or work area. The end table, work area and listed order come out the same for all such orders." They are the
 -- paper's, in whatever area each was opened.
-pub any-two-orders : (image t found found′ : List ℕ) → openRefusal image t found ≡ 0 → openRefusal image t found′ ≡ 0
+pub any-two-orders : (image t found found′ : List ℕ) → openRefusal image t found .number ≡ 0 → openRefusal image t found′ .number ≡ 0
     → (first second first′ second′ : List Step) → Whole image t first second → Whole image t first′ second′
     → (v w : World) → v ≡ worldAfter image t found (first ++ second) → w ≡ worldAfter image t found′ (first′ ++ second′)
     → (v ≡ paperWorld image t) × (w ≡ v) × (orderOf (length t) (countOf image) (w .area) ≡ orderOf (length t) (countOf image) (v .area))
@@ -113,7 +115,7 @@ any-two-orders image t found found′ e e′ first second first′ second′ who
 -- ---- Only by the rules on the way
 
 -- A batch opened on the table t in whatever area was found, any history of it, ended or not, and the world that it leaves.
-module _ (image t found : List ℕ) (opened : openRefusal image t found ≡ 0) (history : List Step) (w : World)
+module _ (image t found : List ℕ) (opened : openRefusal image t found .number ≡ 0) (history : List Step) (w : World)
     (plays : w ≡ worldAfter image t found history) where
   abbrev p : Progress
   p = reached image history
@@ -132,16 +134,16 @@ module _ (image t found : List ℕ) (opened : openRefusal image t found ≡ 0) (
       ∙ ap (λ (x : World). worldOn image t (gatheredIn (length t) (x .area)) (settledIn (length t) (x .area))) (sym is))
 
   -- After any history, ended or not, the area passes check 7.
-  pub checked-on-the-way : callRefusal image (w .table) (w .area) ≡ 0
+  pub checked-on-the-way : callRefusal image (w .table) (w .area) .number ≡ 0
   checked-on-the-way =
-      ap (λ (x : World). callRefusal image (x .table) (x .area)) is ∙ call-on image t (opens image t found opened) (p .gathered) (p .settled)
+      ap (λ (x : World). callRefusal image (x .table) (x .area) .number) is ∙ call-on image t (opens image t found opened) (p .gathered) (p .settled)
 
   -- Each gathered slot holds its program's run from the opening table: its reads, stores and values are those of that run,
   pub log-on-the-way : (k : ℕ) → k < countOf image → gatheredIn (length t) (w .area) k ≡ true
-      → logIn (slotAt (length t) k (w .area)) ≡ logOf (batchOf image t) k
+      → logOf (slotAt (length t) k (w .area)) ≡ sets (batchOf image t) k
   unfolding logBy
   log-on-the-way k l g =
-      ap (λ (x : World). logIn (slotAt (length t) k (x .area))) on-the-way ∙ (log-on (batchOf image t) _ _ (length t) fits k l ∙ rw g)
+      ap (λ (x : World). logOf (slotAt (length t) k (x .area))) on-the-way ∙ (log-on (batchOf image t) _ _ (length t) fits k l ∙ rw g)
 
   -- and its state and detail are the run's, until it is settled, and then those that the paper gives it. A waiting slot is all 0.
   pub slot-on-the-way : (k : ℕ) → k < countOf image
@@ -154,7 +156,7 @@ module _ (image t found : List ℕ) (opened : openRefusal image t found ≡ 0) (
   gathered-slot k l g s = slot-on-the-way k l ∙ rw (g, s)
 
   pub settled-slot : (k : ℕ) → k < countOf image → settledIn (length t) (w .area) k ≡ true
-      → slotAt (length t) k (w .area) ≡ layout (stateAfter (batchOf image t) k) (detailAfter (batchOf image t) k) (logOf (batchOf image t) k)
+      → slotAt (length t) k (w .area) ≡ layout (stateAfter (batchOf image t) k) (detailAfter (batchOf image t) k) (sets (batchOf image t) k)
   unfolding slotOn
   settled-slot k l s = slot-on-the-way k l ∙ rw (settled-gathered (length t) (w .area) k s, s)
 
@@ -173,12 +175,15 @@ module _ (image t found : List ℕ) (opened : openRefusal image t found ≡ 0) (
       ∙ (ap (λ (x : World). gatheredIn (length t) (x .area) k) (sym is) ∙ g)))
 
   -- The marks are those of the gathered programs.
-  pub write-marks-on-the-way : words (writeMarks (length t)) (length t) (w .area)
-      ≡ tabulate (writeMark (batchOf image t) (gatheredIn (length t) (w .area))) (length t)
-  write-marks-on-the-way =
-      ap (λ (x : World). words (writeMarks (length t)) (length t) (x .area)) on-the-way ∙ write-marks-on (batchOf image t) _ _ (length t) fits
+  marks-on-the-way : (m : MarkKind)
+      → words (marksAt m (length t)) (length t) (w .area) ≡ tabulate (markOn m (batchOf image t) (gatheredIn (length t) (w .area))) (length t)
+  marks-on-the-way m =
+      ap (λ (x : World). words (marksAt m (length t)) (length t) (x .area)) on-the-way ∙ marks-on (batchOf image t) _ _ (length t) fits m
 
-  pub read-marks-on-the-way : words (readMarks (length t)) (length t) (w .area)
-      ≡ tabulate (readMark (batchOf image t) (gatheredIn (length t) (w .area))) (length t)
-  read-marks-on-the-way =
-      ap (λ (x : World). words (readMarks (length t)) (length t) (x .area)) on-the-way ∙ read-marks-on (batchOf image t) _ _ (length t) fits
+  pub write-marks-on-the-way : words (marksAt Write (length t)) (length t) (w .area)
+      ≡ tabulate (markOn Write (batchOf image t) (gatheredIn (length t) (w .area))) (length t)
+  write-marks-on-the-way = marks-on-the-way Write
+
+  pub read-marks-on-the-way : words (marksAt Read (length t)) (length t) (w .area)
+      ≡ tabulate (markOn Read (batchOf image t) (gatheredIn (length t) (w .area))) (length t)
+  read-marks-on-the-way = marks-on-the-way Read

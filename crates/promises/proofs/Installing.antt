@@ -12,10 +12,10 @@ use Rattle.base.proofs.Bools.{known, clash, and-right, and-false, or-false}
 use Rattle.base.proofs.Members.{has-at, has-tail}
 use Rattle.base.proofs.Numbers.{below}
 use Rattle.area.specs.Marks.{storeAll}
-use Rattle.promises.specs.Paper.{Batch, writeSet, written, finished, commits, installed}
+use Rattle.promises.specs.Paper.{Batch, writeSet, newValues, getsSettled, commits, installed}
 use Rattle.promises.specs.Laid.{tableOn}
 use Rattle.promises.proofs.Sets.{also, also-own, also-other, also-failing, also-passing}
-use Rattle.promises.proofs.Deciding.{commits-finished, no-common}
+use Rattle.promises.proofs.Deciding.{commits-keeps, settled-keeps, no-common}
 
 -- ---- stores
 
@@ -65,33 +65,33 @@ module _ (b : Batch) (t : List ℕ) where
   installed-length f (suc n) = go (f n) (installed-length f n)
     where
       go : (c : Bool) → length (installed b f n t) ≡ length t
-          → length (cond c (storeAll (writeSet b n) (written b n) (installed b f n t)) (installed b f n t)) ≡ length t
-      go true ih = store-length (writeSet b n) (written b n) (installed b f n t) ∙ ih
+          → length (cond c (storeAll (writeSet b n) (newValues b n) (installed b f n t)) (installed b f n t)) ≡ length t
+      go true ih = store-length (writeSet b n) (newValues b n) (installed b f n t) ∙ ih
       go false ih = ih
 
   -- One more can be installed last, whatever its number, where nobody else that passes stores a cell of it.
   pub installed-more : (f : ℕ → Bool) (k n : ℕ) → k < n → f k ≡ false
       → ((j : ℕ) → (j ≡ k → ⊥) → f j ≡ true → meets (writeSet b j) (writeSet b k) ≡ false)
-      → installed b (also k f) n t ≡ storeAll (writeSet b k) (written b k) (installed b f n t)
+      → installed b (also k f) n t ≡ storeAll (writeSet b k) (newValues b k) (installed b f n t)
   unfolding installed
   installed-more f k zero l h apart = absurd (omega arith)
   installed-more f k (suc n) l h apart = go (below k n l) (λ m. installed-more f k n m h apart)
     where
       last : (m : k < n) → (c : Bool) → f n ≡ c
-          → installed b (also k f) n t ≡ storeAll (writeSet b k) (written b k) (installed b f n t)
-          → cond c (storeAll (writeSet b n) (written b n) (installed b (also k f) n t)) (installed b (also k f) n t)
-          ≡ storeAll (writeSet b k) (written b k) (cond c (storeAll (writeSet b n) (written b n) (installed b f n t)) (installed b f n t))
+          → installed b (also k f) n t ≡ storeAll (writeSet b k) (newValues b k) (installed b f n t)
+          → cond c (storeAll (writeSet b n) (newValues b n) (installed b (also k f) n t)) (installed b (also k f) n t)
+          ≡ storeAll (writeSet b k) (newValues b k) (cond c (storeAll (writeSet b n) (newValues b n) (installed b f n t)) (installed b f n t))
       last m true e ih =
-          ap (storeAll (writeSet b n) (written b n)) ih
-          ∙ store-swap (writeSet b n) (written b n) (writeSet b k) (written b k) (installed b f n t) (apart n (λ q. omega arith) e)
+          ap (storeAll (writeSet b n) (newValues b n)) ih
+          ∙ store-swap (writeSet b n) (newValues b n) (writeSet b k) (newValues b k) (installed b f n t) (apart n (λ q. omega arith) e)
       last m false e ih = ih
 
-      go : (k ≡ n) ⊎ (k < n) → (k < n → installed b (also k f) n t ≡ storeAll (writeSet b k) (written b k) (installed b f n t))
-          → cond (also k f n) (storeAll (writeSet b n) (written b n) (installed b (also k f) n t)) (installed b (also k f) n t)
-          ≡ storeAll (writeSet b k) (written b k) (cond (f n) (storeAll (writeSet b n) (written b n) (installed b f n t)) (installed b f n t))
+      go : (k ≡ n) ⊎ (k < n) → (k < n → installed b (also k f) n t ≡ storeAll (writeSet b k) (newValues b k) (installed b f n t))
+          → cond (also k f n) (storeAll (writeSet b n) (newValues b n) (installed b (also k f) n t)) (installed b (also k f) n t)
+          ≡ storeAll (writeSet b k) (newValues b k) (cond (f n) (storeAll (writeSet b n) (newValues b n) (installed b f n t)) (installed b f n t))
       go (inl e) ih =
           rw (← e, also-own k f, h)
-          (ap (storeAll (writeSet b k) (written b k)) (installed-ext (also k f) f k (λ i m. also-other k f i (λ q. omega arith))))
+          (ap (storeAll (writeSet b k) (newValues b k)) (installed-ext (also k f) f k (λ i m. also-other k f i (λ q. omega arith))))
       go (inr m) ih = rw (also-other k f n (λ q. omega arith)) (last m (f n) refl (ih m))
 
 -- ---- the table on the way
@@ -106,19 +106,19 @@ module _ (b : Batch) (t : List ℕ) where
   unfolding tableOn
   table-opening settled h = installed-none b t (λ k. settled k && commits b k) (b .programs) (λ k l. ap (λ (c : Bool). c && commits b k) (h k l))
 
-  -- only those that finished count
-  pub table-ext : (settled settled′ : ℕ → Bool) → ((k : ℕ) → k < b .programs → finished b k ≡ true → settled k ≡ settled′ k)
+  -- only those that are settled at all count
+  pub table-ext : (settled settled′ : ℕ → Bool) → ((k : ℕ) → k < b .programs → getsSettled b k ≡ true → settled k ≡ settled′ k)
       → tableOn b settled t ≡ tableOn b settled′ t
   unfolding tableOn
   table-ext settled settled′ h = installed-ext b t _ _ (b .programs) (λ k l. go k l (known (commits b k)))
     where
       go : (k : ℕ) → k < b .programs → (commits b k ≡ true) ⊎ (commits b k ≡ false) → settled k && commits b k ≡ settled′ k && commits b k
-      go k l (inl e) = ap (λ (c : Bool). c && commits b k) (h k l (commits-finished b k e))
+      go k l (inl e) = ap (λ (c : Bool). c && commits b k) (h k l (settled-keeps b k ∙ commits-keeps b k e))
       go k l (inr e) = and-false (settled k) (commits b k) e ∙ sym (and-false (settled′ k) (commits b k) e)
 
   -- one more is settled: its stores go in if it commits
   pub table-more : (settled : ℕ → Bool) (k : ℕ) → k < b .programs → settled k ≡ false
-      → tableOn b (also k settled) t ≡ cond (commits b k) (storeAll (writeSet b k) (written b k) (tableOn b settled t)) (tableOn b settled t)
+      → tableOn b (also k settled) t ≡ cond (commits b k) (storeAll (writeSet b k) (newValues b k) (tableOn b settled t)) (tableOn b settled t)
   unfolding tableOn
   table-more settled k l h = go (known (commits b k))
     where
@@ -127,7 +127,7 @@ module _ (b : Batch) (t : List ℕ) where
 
       go : (commits b k ≡ true) ⊎ (commits b k ≡ false)
           → installed b (λ j. also k settled j && commits b j) (b .programs) t
-          ≡ cond (commits b k) (storeAll (writeSet b k) (written b k) (installed b f (b .programs) t)) (installed b f (b .programs) t)
+          ≡ cond (commits b k) (storeAll (writeSet b k) (newValues b k) (installed b f (b .programs) t)) (installed b f (b .programs) t)
       go (inl e) =
           rw e
           (installed-ext b t _ _ (b .programs) (λ j _. also-passing k settled (commits b) e j)

@@ -10,34 +10,25 @@ use Rattle.slot.specs.States.{committed, carried}
 use Rattle.machine.specs.declared.Run.{Run}
 use Rattle.machine.specs.declared.Run.the-variants.{Finished, Rejected, Faulted}
 use Rattle.machine.specs.Runs.{stateOfRun}
+use Rattle.slot.specs.declared.Group.the-variants.{Carried}
+use Rattle.area.specs.Layout.{inGroup}
 use Rattle.writer.specs.Picked.{allOf}
-use Rattle.carry.specs.Next.{isCarried, carriedOf, nextPrograms, nextImage, nextRefusal}
+use Rattle.carry.specs.Next.{carriedOf, nextPrograms, nextImage, nextRefusal}
 use Rattle.carry.proofs.Nexts.{next-good, next-rule, next-programs}
-use Rattle.promises.specs.Paper.{batchOf, finishes, finished, commits, stateAfter}
+use Rattle.promises.specs.Paper.{batchOf, getsSettled, commits}
 use Rattle.promises.specs.Laid.{World}
 use Rattle.promises.specs.History.{RunToEnd}
-use Rattle.promises.proofs.AtEnd.{paper-ends}
+use Rattle.promises.proofs.AtEnd.{carried-is, paper-ends, end-carried}
 
 -- Where the call is not refused, its output is a good image with the fresh rule byte, and its programs are the carried ones and then the fresh ones.
-pub next-holds : (image t a fresh out : List ℕ) → nextRefusal image t a fresh out ≡ 0
+pub next-holds : (image t a fresh out : List ℕ) → nextRefusal image t a fresh out .number ≡ 0
     → (let next = nextImage (length t) image a fresh in
-    (refusalOf next ≡ 0) × (ruleByte next ≡ ruleByte fresh) × (allOf next ≡ carriedOf (length t) image a ++ allOf fresh))
+    (refusalOf next .number ≡ 0) × (ruleByte next ≡ ruleByte fresh) × (allOf next ≡ carriedOf (length t) image a ++ allOf fresh))
 unfolding nextPrograms
 next-holds image t a fresh out e =
     (next-good image t a fresh out e, next-rule image t a fresh out e, next-programs image t a fresh out e)
 
--- a program is carried where it finished and does not commit
-carried-state : (answer : Run) (commit : Bool)
-    → eqb (cond (finishes answer) (cond commit committed carried) (stateOfRun answer)) carried ≡ finishes answer && not commit
-carried-state Finished true = refl
-carried-state Finished false = refl
-carried-state (Rejected code) commit = refl
-carried-state (Faulted kind at) commit = refl
-
--- At the end of a batch, the carried programs are the paper's: those that finished and do not commit.
+-- At the end of a batch, the carried programs are the paper's: those that are settled and do not commit.
 pub carried-are : (image t : List ℕ) (w : World) → RunToEnd image t w → (k : ℕ) → k < countOf image
-    → isCarried (length t) (w .area) k ≡ finished (batchOf image t) k && not (commits (batchOf image t) k)
-unfolding isCarried stateAfter
-carried-are image t w run k l =
-    ap (λ (s : ℕ). eqb s carried) (paper-ends run .state-is k l)
-    ∙ carried-state (batchOf image t .runs k .answer) (commits (batchOf image t) k)
+    → inGroup Carried (length t) (w .area) k ≡ getsSettled (batchOf image t) k && not (commits (batchOf image t) k)
+carried-are image t w run k l = end-carried (paper-ends run) k l ∙ carried-is (batchOf image t) k

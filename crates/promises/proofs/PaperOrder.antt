@@ -12,8 +12,8 @@ use borrow.Author.Tests.{ltb-true, lt-ltb}
 use Rattle.base.specs.Words.{count, has, distinct, meets}
 use Rattle.base.proofs.Bools.{clash, and-both, both-and, same-test}
 use Rattle.base.proofs.Counts.{count-le}
-use Rattle.listing.specs.Order.{listed, rising}
-use Rattle.listing.proofs.Whole.{Ordered, listed-members, listed-distinct, listed-ordered, Ranked, listed-whole, length-listed}
+use Rattle.listing.specs.Order.{Ordered, listed, rising}
+use Rattle.listing.proofs.Whole.{listed-members, listed-distinct, listed-ordered, Ranked, listed-whole, length-listed}
 use Rattle.listing.proofs.Rising.{listed-rising}
 use Rattle.promises.specs.Paper.{Batch, readSet, writeSet, raw, war, commits}
 use Rattle.promises.proofs.Conflicts.{commits-not-both, rule1-no-raw, no-raw-upward, no-war-downward}

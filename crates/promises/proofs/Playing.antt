@@ -9,12 +9,15 @@ use Rattle.base.proofs.Numbers.{none-first}
 use Rattle.base.proofs.Tables.{tabulate-is}
 use Rattle.image.specs.Image.{countOf}
 use Rattle.slot.specs.Layout.{slotWords}
+use Rattle.image.proofs.Refusing.{unless-done}
+use Rattle.area.specs.declared.MarkKind.{MarkKind}
+use Rattle.area.specs.declared.MarkKind.the-variants.{Write, Read}
 use Rattle.area.specs.Layout.{areaWords}
 use Rattle.area.specs.Checks.{openRefusal}
-use Rattle.area.proofs.Checks.{open-shows, room-shows}
-use Rattle.steps.specs.Opening.{openArea}
+use Rattle.area.proofs.Checks.{open-shows}
+use Rattle.steps.specs.Opening.{cleared, openArea}
 use Rattle.promises.specs.Paper.{Batch, batchOf}
-use Rattle.promises.specs.Laid.{World, writeMark, readMark, slotOn, slotsTo, areaOn, tableOn, worldOn}
+use Rattle.promises.specs.Laid.{World, markOn, slotOn, slotsTo, areaOn, tableOn, worldOn}
 use Rattle.promises.specs.History.{Step, gather, settle, after, played, opening, worldAfter}
 use Rattle.promises.proofs.Sets.{nobody}
 use Rattle.promises.proofs.Installing.{table-opening}
@@ -24,12 +27,11 @@ use Rattle.promises.proofs.Progress.{Progress, none-yet, moved, movedBy
 -- ---- an opened area: nobody is gathered, and all is 0
 
 module _ (b : Batch) where
-  marks-none : (T : ℕ) → (tabulate (writeMark b nobody) T ≡ replicate T 0) × (tabulate (readMark b nobody) T ≡ replicate T 0)
-  unfolding writeMark readMark
-  marks-none T = (zeros (λ c. none-first _ (b .programs) (λ _ _. refl)), zeros (λ c. none-first _ (b .programs) (λ _ _. refl)))
-    where
-      zeros : {f : ℕ → ℕ} → ((c : ℕ) → f c ≡ 0) → tabulate f T ≡ replicate T 0
-      zeros {f} h = sym (tabulate-is f T (replicate T 0) (length-replicate T 0) (λ c l. getD-replicate T c 0 0 l ∙ sym (h c)))
+  marks-none : (T : ℕ) (m : MarkKind) → tabulate (markOn m b nobody) T ≡ replicate T 0
+  unfolding markOn
+  marks-none T m =
+      sym (tabulate-is (markOn m b nobody) T (replicate T 0) (length-replicate T 0)
+      (λ c l. getD-replicate T c 0 0 l ∙ sym (none-first _ (b .programs) (λ _ _. refl))))
 
   slots-none : (m : ℕ) → slotsTo b nobody nobody m ≡ replicate (slotWords * m) 0
   unfolding slotsTo slotOn
@@ -42,15 +44,19 @@ module _ (b : Batch) where
   unfolding areaOn
   area-none T =
       let e : T + (T + slotWords * b .programs) ≡ areaWords T (b .programs) = omega arith in
-      rw (marks-none T .0, marks-none T .1, slots-none (b .programs), ← e)
+      rw (marks-none T Write, marks-none T Read, slots-none (b .programs), ← e)
       (ap (λ (x : List ℕ). replicate T 0 ++ x) (replicate-append-replicate T (slotWords * b .programs) 0)
       ∙ replicate-append-replicate T (T + slotWords * b .programs) 0)
 
-pub opened-on : (image t found : List ℕ) → openRefusal image t found ≡ 0 → opening image t found ≡ worldOn image t nobody nobody
+pub opened-on : (image t found : List ℕ) → openRefusal image t found .number ≡ 0 → opening image t found ≡ worldOn image t nobody nobody
 unfolding opening openArea
 opened-on image t found e =
-    let r = room-shows (countOf image) t found (open-shows image t found e .1) in
-    rw (e, r .2, area-none (batchOf image t) (length t), table-opening (batchOf image t) t nobody (λ _ _. refl))
+    rw (
+      unless-done (openRefusal image t found) (λ r. found) (cleared found) e,
+      open-shows image t found e .sized,
+      area-none (batchOf image t) (length t),
+      table-opening (batchOf image t) t nobody (λ _ _. refl),
+    )
 
 -- ---- a history
 
@@ -80,7 +86,7 @@ reached image h = movedBy (countOf image) h none-yet
 pub reached-phased : (image : List ℕ) (h : List Step) → Phased (countOf image) (reached image h .gathered) (reached image h .settled)
 reached-phased image h = phased-by (countOf image) h none-yet (none-phased (countOf image))
 
-pub world-reached : (image t found : List ℕ) → openRefusal image t found ≡ 0 → (h : List Step)
+pub world-reached : (image t found : List ℕ) → openRefusal image t found .number ≡ 0 → (h : List Step)
     → worldAfter image t found h ≡ worldAt image t (reached image h)
 world-reached image t found e h =
     rw (opened-on image t found e) (played-on image t (opens image t found e) h none-yet (none-phased (countOf image)))

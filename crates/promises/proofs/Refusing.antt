@@ -4,7 +4,7 @@
 use Prim.Native.Nat.{ℕ}
 use mathlib.Core.Path.{_≡_, ap}
 use mathlib.Core.List.{List, []}
-use Rattle.base.proofs.Calls.{unless-refused}
+use Rattle.image.proofs.Refusing.{unless-refused}
 use Rattle.image.specs.Refusals.{noCount}
 use Rattle.image.specs.Image.{programRefusalOf, programOf, startOf}
 use Rattle.area.specs.Checks.{openRefusal}
@@ -12,33 +12,40 @@ use Rattle.steps.specs.Opening.{openArea}
 use Rattle.steps.specs.Answers.{numbersOfGathered, numbersOfSettled, refusedBy}
 use Rattle.steps.specs.Gathering.{gatherRefusal, gatherAnswer, gatherArea}
 use Rattle.steps.specs.Settling.{settleRefusal, settleAnswer, settleTable, settleArea}
-use Rattle.steps.proofs.Answers.{open-nothing, gather-nothing, settle-nothing}
 use Rattle.listing.specs.Listing.{orderRefusal, orderAnswer, orderList, numbersOfListed}
 use Rattle.carry.specs.Next.{nextRefusal, nextAnswer, nextOut, numbersOfNext}
 
-pub program-refused : (image : List ℕ) (k : ℕ) → (programRefusalOf image k ≡ 0 → ⊥) → (programOf image k ≡ []) × (startOf image k ≡ 0)
+pub program-refused : (image : List ℕ) (k : ℕ) → (programRefusalOf image k .number ≡ 0 → ⊥) → (programOf image k ≡ []) × (startOf image k ≡ 0)
 unfolding programOf startOf
 program-refused image k h = (unless-refused (programRefusalOf image k) _ _ h, unless-refused (programRefusalOf image k) _ _ h)
 
-pub open-refused : (image t a : List ℕ) → (openRefusal image t a ≡ 0 → ⊥) → openArea image t a ≡ a
-open-refused image t a h = open-nothing image t a h
+pub open-refused : (image t a : List ℕ) → (openRefusal image t a .number ≡ 0 → ⊥) → openArea image t a ≡ a
+unfolding openArea
+open-refused image t a h = unless-refused (openRefusal image t a) _ _ h
 
-pub gather-refused : (image t a : List ℕ) (k : ℕ) → (gatherRefusal image t a k ≡ 0 → ⊥)
+pub gather-refused : (image t a : List ℕ) (k : ℕ) → (gatherRefusal image t a k .number ≡ 0 → ⊥)
     → (numbersOfGathered (gatherAnswer image t a k) ≡ refusedBy (gatherRefusal image t a k)) × (gatherArea image t a k ≡ a)
-gather-refused image t a k h = gather-nothing image t a k h
+unfolding gatherAnswer gatherArea
+gather-refused image t a k h =
+    (ap numbersOfGathered (unless-refused (gatherRefusal image t a k) _ _ h), unless-refused (gatherRefusal image t a k) _ _ h)
 
-pub settle-refused : (image t a : List ℕ) (k : ℕ) → (settleRefusal image t a k ≡ 0 → ⊥)
+pub settle-refused : (image t a : List ℕ) (k : ℕ) → (settleRefusal image t a k .number ≡ 0 → ⊥)
     → (numbersOfSettled (settleAnswer image t a k) ≡ refusedBy (settleRefusal image t a k))
     × (settleTable image t a k ≡ t) × (settleArea image t a k ≡ a)
-settle-refused image t a k h = settle-nothing image t a k h
+unfolding settleAnswer settleTable settleArea
+settle-refused image t a k h = (
+  ap numbersOfSettled (unless-refused (settleRefusal image t a k) _ _ h),
+  unless-refused (settleRefusal image t a k) _ _ h,
+  unless-refused (settleRefusal image t a k) _ _ h,
+)
 
-pub order-refused : (image t a list : List ℕ) → (orderRefusal image t a list ≡ 0 → ⊥)
+pub order-refused : (image t a list : List ℕ) → (orderRefusal image t a list .number ≡ 0 → ⊥)
     → (numbersOfListed (orderAnswer image t a list) ≡ noCount (orderRefusal image t a list)) × (orderList image t a list ≡ list)
 unfolding orderAnswer orderList
 order-refused image t a list h =
     (ap numbersOfListed (unless-refused (orderRefusal image t a list) _ _ h), unless-refused (orderRefusal image t a list) _ _ h)
 
-pub next-refused : (image t a fresh out : List ℕ) → (nextRefusal image t a fresh out ≡ 0 → ⊥)
+pub next-refused : (image t a fresh out : List ℕ) → (nextRefusal image t a fresh out .number ≡ 0 → ⊥)
     → (numbersOfNext (nextAnswer image t a fresh out) ≡ noCount (nextRefusal image t a fresh out)) × (nextOut image t a fresh out ≡ out)
 unfolding nextAnswer nextOut
 next-refused image t a fresh out h =

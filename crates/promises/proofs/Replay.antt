@@ -16,20 +16,20 @@ use Rattle.image.specs.Image.{countOf, partOf}
 use Rattle.slot.specs.Log.{Log}
 use Rattle.machine.specs.declared.Run.{Run}
 use Rattle.machine.specs.declared.Run.the-variants.{Finished, Rejected, Faulted}
-use Rattle.machine.specs.Runs.{Outcome, kept}
+use Rattle.machine.specs.Runs.{Outcome, keeps, kept}
 use Rattle.machine.proofs.Laws.{reads-decide}
 use Rattle.area.specs.Marks.{storeAll}
 use Rattle.steps.specs.Gathering.{runAt}
-use Rattle.listing.proofs.Whole.{Ordered}
-use Rattle.promises.specs.Paper.{batchOf, finishes, readSet, writeSet, written, commits, installed, tableAfter}
+use Rattle.listing.specs.Order.{Ordered}
+use Rattle.promises.specs.Paper.{batchOf, readSet, writeSet, newValues, commits, installed, tableAfter}
 use Rattle.promises.specs.Serial.{serialTable, serialRuns}
 use Rattle.promises.proofs.Sets.{nobody, also, also-cases}
-use Rattle.promises.proofs.Deciding.{commits-finished, no-common}
+use Rattle.promises.proofs.Deciding.{commits-keeps, no-common}
 use Rattle.promises.proofs.Installing.{store-length, installed-none, installed-ext, installed-more}
 use Rattle.promises.proofs.PaperOrder.{paperOrder, order-members, order-distinct, order-ordered}
 
--- a run that finishes keeps all it read
-kept-all : (r : Run) (l : Log) → finishes r ≡ true → kept r l ≡ l
+-- a run that keeps its log keeps all of it
+kept-all : (r : Run) (l : Log) → keeps r ≡ true → kept r l ≡ l
 kept-all Finished l e = refl
 kept-all (Rejected code) l e = clash e refl
 kept-all (Faulted kind at) l e = clash e refl
@@ -54,17 +54,17 @@ module _ (image t : List ℕ) where
   same-run : (k : ℕ) (l u : List ℕ) → ToRun (k ∷ l) u → runAt image u k ≡ runAt image t k
   same-run k l u w =
       let o = runAt image t k in
-      let e = kept-all (o .answer) (o .log) (commits-finished (batchOf image t) k (w .committing k (has-head k l))) in
+      let e = kept-all (o .answer) (o .log) (commits-keeps (batchOf image t) k (w .committing k (has-head k l))) in
       reads-decide (partOf image k) t u (w .sized) (λ c h. w .opening k c (has-head k l) (ap (λ (m : Log). has c (m .reads)) e ∙ h))
 
-  to-run-next : (k : ℕ) (l u : List ℕ) → ToRun (k ∷ l) u → ToRun l (storeAll (writeSet (batchOf image t) k) (written (batchOf image t) k) u)
+  to-run-next : (k : ℕ) (l u : List ℕ) → ToRun (k ∷ l) u → ToRun l (storeAll (writeSet (batchOf image t) k) (newValues (batchOf image t) k) u)
   to-run-next k l u w =
       let b = batchOf image t in
       record {
-        sized = w .sized ∙ sym (store-length (writeSet b k) (written b k) u);
+        sized = w .sized ∙ sym (store-length (writeSet b k) (newValues b k) u);
         opening = λ j c h r.
             w .opening j c (has-tail j k l h) r
-            ∙ sym (store-other (writeSet b k) (written b k) u c (not-true (λ s. clash (meets-in c (readSet b j) (writeSet b k) r s) (w .ordered .0 j h))));
+            ∙ sym (store-other (writeSet b k) (newValues b k) u c (not-true (λ s. clash (meets-in c (readSet b j) (writeSet b k) r s) (w .ordered .0 j h))));
         committing = λ j h. w .committing j (has-tail j k l h);
         ordered = w .ordered .1;
       }
@@ -75,12 +75,12 @@ module _ (image t : List ℕ) where
   runs-same (k ∷ l) u w =
       rw (same-run k l u w)
       (ap (λ (z : List Outcome). runAt image t k ∷ z)
-      (runs-same l (storeAll (writeSet (batchOf image t) k) (written (batchOf image t) k) u) (to-run-next k l u w)))
+      (runs-same l (storeAll (writeSet (batchOf image t) k) (newValues (batchOf image t) k) u) (to-run-next k l u w)))
 
   -- a program that commits may be installed after others that commit
   installs-next : (done : ℕ → Bool) (k : ℕ) → k < countOf image → done k ≡ false → commits (batchOf image t) k ≡ true
       → ((j : ℕ) → done j ≡ true → commits (batchOf image t) j ≡ true)
-      → storeAll (writeSet (batchOf image t) k) (written (batchOf image t) k) (installed (batchOf image t) done (countOf image) t)
+      → storeAll (writeSet (batchOf image t) k) (newValues (batchOf image t) k) (installed (batchOf image t) done (countOf image) t)
       ≡ installed (batchOf image t) (also k done) (countOf image) t
   installs-next done k l new e all =
       sym (installed-more (batchOf image t) t done k (countOf image) l new (λ j q d. no-common (batchOf image t) j k q (all j d) e))

@@ -4,29 +4,32 @@ use mathlib.Core.Path.{_≡_, refl, sym, ap, _∙_}
 use mathlib.Core.Logic.{_⊎_, inl, inr}
 use mathlib.Core.Bool.{Bool, true, false, not, cond, _&&_}
 use mathlib.Core.List.{List}
-use Prim.Native.Nat.{ℕ, _≤_, _<_}
+use Prim.Native.Nat.{ℕ, suc, _≤_, _<_}
 use native.Mathlib.Decide.{ℕ-discrete}
 use native.Mathlib.Omega.{arith}
-use lib.Dec.{eqb, ltb}
+use lib.Dec.{eqb, ltb, leb}
 use lib.ListN.{length}
-use borrow.Author.Tests.{ltb-true, ltb-false, lt-ltb}
-use Rattle.base.specs.Words.{every, unless}
+use borrow.Author.Tests.{ltb-true, ltb-false, lt-ltb, le-leb, eq-eqb, ne-eqb}
+use Rattle.base.specs.Words.{every}
 use Rattle.base.proofs.Bools.{known, clash, and-both, both-and, nots, not-false}
-use Rattle.base.proofs.Numbers.{every-at, every-ext}
+use Rattle.base.proofs.Numbers.{zero-or, every-at, every-ext}
 use Rattle.image.specs.Limits.{maxCells}
-use Rattle.image.specs.Refusals.{noSuchProgram, wrongState}
+use Rattle.image.specs.Refusals as refusal
+use Rattle.image.specs.Refusals.{check, after, unless}
 use Rattle.image.specs.Image.{countOf, partOf, refusalOf}
 use Rattle.image.proofs.Laws.{accepted, part-short}
-use Rattle.slot.specs.States.{waiting, gathered}
-use Rattle.machine.proofs.Laws.{run-fits, kept-fits}
+use Rattle.slot.specs.declared.ListKind.the-variants.{Reads, Stores}
+use Rattle.slot.specs.States.{waiting, gathered, hasRun}
+use Rattle.machine.proofs.Laws.{run-kept}
+use Rattle.area.specs.declared.MarkKind.the-variants.{Write, Read}
 use Rattle.area.specs.Layout.{stateOf}
 use Rattle.area.specs.Marks.{storeAll}
-use Rattle.area.specs.Checks.{callRefusal, openRefusal, noneWaits, Checked}
-use Rattle.area.proofs.Checks.{few, passed-good, checked-is, open-shows, room-shows}
+use Rattle.area.specs.Checks.{callRefusal, openRefusal, statesFrom, Checked}
+use Rattle.area.proofs.Checks.{few, passed-good, checked-is, open-shows}
 use Rattle.steps.specs.declared.Settled.the-variants.{Committed, Carried}
 use Rattle.steps.specs.Gathering.{runAt, stepRefusal, waits, gatherRefusal, gatheredArea, gatherArea}
-use Rattle.steps.specs.Settling.{settles, settleRefusal, verdict, settledTable, settledArea, settleTable, settleArea}
-use Rattle.promises.specs.Paper.{Batch, batchOf, writeSet, written, finished, commits, reason}
+use Rattle.steps.specs.Settling.{isReady, settleRefusal, verdict, settledTable, settledArea, settleTable, settleArea}
+use Rattle.promises.specs.Paper.{Batch, batchOf, writeSet, newValues, getsSettled, commits, reason}
 use Rattle.promises.specs.Laid.{areaOn, tableOn}
 use Rattle.promises.proofs.Sets.{also, also-own, also-other}
 use Rattle.promises.proofs.Deciding.{decisionOn, decided-is, decision-state, decision-detail}
@@ -34,16 +37,18 @@ use Rattle.promises.proofs.Installing.{table-length, table-opening, tab
 use Rattle.promises.proofs.SlotLaws.{stateBy, by-started, by-gathered}
 use Rattle.promises.proofs.Views.{Fitting, on-length, on-passes, state-on, on-ext}
 use Rattle.promises.proofs.GatherStep.{gathered-more}
-use Rattle.promises.proofs.SettleStep.{settled-more, own-stores, own-values, waw-on, raw-on, war-on}
+use Rattle.promises.proofs.SettleStep.{settled-more, own-list, own-values, depends-on}
 
 -- ---- the calls, where checks 1 to 7 pass: the rest of the checks is one test
 
-module _ (image t a : List ℕ) (k : ℕ) (passes : callRefusal image t a ≡ 0) where
-  step-is : {A : Type 0} (nine : Bool) (stay go : A) → unless (stepRefusal nine image t a k) (λ r. stay) go ≡ cond (ltb k (countOf image) && nine) go stay
-  unfolding stepRefusal
-  step-is {A} nine stay go = rw passes (cases (ltb k (countOf image)) nine)
+module _ (image t a : List ℕ) (k : ℕ) (called : callRefusal image t a .number ≡ 0) where
+  step-is : {A : Type 0} (nine : Bool) (stay go : A)
+      → unless (after (stepRefusal image t a k) (check nine refusal.state refusal.none)) (λ r. stay) go ≡ cond (ltb k (countOf image) && nine) go stay
+  unfolding stepRefusal check unless
+  step-is {A} nine stay go = rw (eq-eqb (callRefusal image t a .number) 0 called) (cases (ltb k (countOf image)) nine)
     where
-      cases : (l n : Bool) → unless {A = A} (cond l (cond n 0 wrongState) noSuchProgram) (λ r. stay) go ≡ cond (l && n) go stay
+      cases : (l n : Bool)
+          → unless {A = A} (after (check l refusal.number refusal.none) (check n refusal.state refusal.none)) (λ r. stay) go ≡ cond (l && n) go stay
       cases true true = refl
       cases true false = refl
       cases false n = refl
@@ -53,34 +58,42 @@ module _ (image t a : List ℕ) (k : ℕ) (passes : callRefusal image t a ≡ 0)
   gather-is = step-is (waits (length t) k a) a (gatheredArea image t k a)
 
   pub settle-table-is : settleTable image t a k
-      ≡ cond (ltb k (countOf image) && settles (length t) (countOf image) k a) (settledTable (verdict image (length t) k a) k a t) t
+      ≡ cond (ltb k (countOf image) && isReady (length t) (countOf image) k a) (settledTable (verdict image (length t) k a) k a t) t
   unfolding settleTable settleRefusal
-  settle-table-is = step-is (settles (length t) (countOf image) k a) t (settledTable (verdict image (length t) k a) k a t)
+  settle-table-is = step-is (isReady (length t) (countOf image) k a) t (settledTable (verdict image (length t) k a) k a t)
 
   pub settle-area-is : settleArea image t a k
-      ≡ cond (ltb k (countOf image) && settles (length t) (countOf image) k a) (settledArea (verdict image (length t) k a) (length t) k a) a
+      ≡ cond (ltb k (countOf image) && isReady (length t) (countOf image) k a) (settledArea (verdict image (length t) k a) (length t) k a) a
   unfolding settleArea settleRefusal
-  settle-area-is = step-is (settles (length t) (countOf image) k a) a (settledArea (verdict image (length t) k a) (length t) k a)
+  settle-area-is = step-is (isReady (length t) (countOf image) k a) a (settledArea (verdict image (length t) k a) (length t) k a)
 
 -- ---- a batch that opens
 
 -- every run's log fits its slot
-pub runs-fit : (image t : List ℕ) → refusalOf image ≡ 0 → Fitting (batchOf image t) (length t)
+pub runs-fit : (image t : List ℕ) → refusalOf image .number ≡ 0 → Fitting (batchOf image t) (length t)
 unfolding Fitting
 runs-fit image t e k l =
-    kept-fits (length t) (runAt image t k .answer) (runAt image t k .log) (run-fits (partOf image k) t (part-short image (accepted image e .offsets) k l))
+    run-kept (partOf image k) t (part-short image (accepted image e .offsets) k l)
 
 -- what the checks 1 to 5 have shown
 pub record Opens (image t : List ℕ) : Type 0 where
-  pub accepted : refusalOf image ≡ 0
+  pub accepted : refusalOf image .number ≡ 0
   pub cells-some : 0 < length t
   pub cells-few : length t ≤ maxCells
 
-pub opens : (image t found : List ℕ) → openRefusal image t found ≡ 0 → Opens image t
+pub opens : (image t found : List ℕ) → openRefusal image t found .number ≡ 0 → Opens image t
 opens image t found e =
-    let w = open-shows image t found e in
-    let r = room-shows (countOf image) t found (w .1) in
-    record { accepted = w .0; cells-some = r .0; cells-few = r .1 }
+    let r = open-shows image t found e in
+    record { accepted = r .accepted; cells-some = r .cells-some; cells-few = r .cells-few }
+
+-- who waits has not run
+waiting-is : (s : ℕ) → eqb s waiting ≡ not (hasRun s)
+unfolding hasRun
+waiting-is s = go (zero-or s)
+  where
+    go : (s ≡ 0) ⊎ ((i : ℕ) × (s ≡ suc i)) → eqb s waiting ≡ not (leb gathered s)
+    go (inl e) = rw e
+    go (inr e) = rw (e .1) (ne-eqb (suc (e .0)) waiting (λ z. omega arith) ∙ ap not (sym (le-leb gathered (suc (e .0)) (omega arith))))
 
 -- nobody is settled before everybody is gathered
 unfoldable pub Phased : ℕ → (gathered settled : ℕ → Bool) → Type 0
@@ -118,27 +131,20 @@ module _ (image t : List ℕ) (o : Opens image t) where
           good = rw same (passed-good T n _ (on-passes b G S T fitting));
         }
 
-    pub call-on : callRefusal image table area ≡ 0
+    pub call-on : callRefusal image table area .number ≡ 0
     call-on = checked-is image _ _ checked-on
 
     -- ---- check 9 on the way
 
-    not-not : (c : Bool) → not (not c) ≡ c
-    not-not true = refl
-    not-not false = refl
-
     waits-on : (k : ℕ) → k < n → waits T k area ≡ not (G k)
     unfolding waits
-    waits-on k l =
-        rw (state-on b G S T fitting k l)
-        (sym (not-not (eqb (stateBy b k (G k) (S k)) waiting)) ∙ ap not (by-started b k (G k) (S k)))
+    waits-on k l = rw (state-on b G S T fitting k l) (waiting-is (stateBy b k (G k) (S k)) ∙ ap not (by-started b k (G k) (S k)))
 
-    settles-on : (k : ℕ) → k < n → settles T n k area ≡ every n G && ((G k && not (S k)) && finished b k)
-    unfolding settles noneWaits
-    settles-on k l =
+    ready-on : (k : ℕ) → k < n → isReady T n k area ≡ every n G && ((G k && not (S k)) && getsSettled b k)
+    unfolding isReady statesFrom hasRun
+    ready-on k l =
         rw (
-          every-ext n (λ j. not (eqb (stateOf T j area) waiting)) G
-              (λ j m. rw (state-on b G S T fitting j m) (by-started b j (G j) (S j))),
+          every-ext n (λ j. leb gathered (stateOf T j area)) G (λ j m. rw (state-on b G S T fitting j m) (by-started b j (G j) (S j))),
           state-on b G S T fitting k l,
         )
         (ap (λ (c : Bool). every n G && c) (by-gathered b k (G k) (S k)))
@@ -175,7 +181,7 @@ module _ (image t : List ℕ) (o : Opens image t) where
 
     -- the call's tests 8 and 9
     abbrev asked : ℕ → Bool
-    asked k = ltb k n && settles T n k area
+    asked k = ltb k n && isReady T n k area
 
     -- they pass when the program is one more to be settled
     record Settling (k : ℕ) : Type 0 where
@@ -183,19 +189,19 @@ module _ (image t : List ℕ) (o : Opens image t) where
       pub everybody : every n G ≡ true
       pub own : G k ≡ true
       pub unsettled : S k ≡ false
-      pub ran : finished b k ≡ true
+      pub ran : getsSettled b k ≡ true
 
     settling : (k : ℕ) → asked k ≡ true → Settling k
     settling k e =
         let w = and-both (ltb k n) _ e in
         let l : k < n = ltb-true k n (w .0) in
-        let s = and-both (every n G) _ (sym (settles-on k l) ∙ w .1) in
-        let r = and-both (G k && not (S k)) (finished b k) (s .1) in
+        let s = and-both (every n G) _ (sym (ready-on k l) ∙ w .1) in
+        let r = and-both (G k && not (S k)) (getsSettled b k) (s .1) in
         let g = and-both (G k) (not (S k)) (r .0) in
         record { number = l; everybody = s .0; own = g .0; unsettled = nots (S k) (g .1); ran = r .1 }
 
-    -- where they fail, nobody who finished is newly settled
-    not-settling : (k : ℕ) → asked k ≡ false → (j : ℕ) → j < n → finished b j ≡ true → S j ≡ settledToo k j
+    -- where they fail, nobody who is settled at all is newly settled
+    not-settling : (k : ℕ) → asked k ≡ false → (j : ℕ) → j < n → getsSettled b j ≡ true → S j ≡ settledToo k j
     not-settling k e j l f = go (known (every n G)) (ℕ-discrete j k)
       where
         go : (every n G ≡ true) ⊎ (every n G ≡ false) → Dec (j ≡ k) → S j ≡ cond (every n G) (also k S) S j
@@ -205,7 +211,7 @@ module _ (image t : List ℕ) (o : Opens image t) where
             let m : k < n = rw q at l in
             let settled : S k ≡ true =
             not-false (λ s. clash (both-and (lt-ltb k n m)
-            (settles-on k m ∙ both-and a (both-and (both-and (every-at n G a k m) (ap not s)) (rw q at f)))) e) in
+            (ready-on k m ∙ both-and a (both-and (both-and (every-at n G a k m) (ap not s)) (rw q at f)))) e) in
             rw (a, q) (settled ∙ sym (also-own k S))
 
     module _ (k : ℕ) (s : Settling k) where
@@ -216,9 +222,9 @@ module _ (image t : List ℕ) (o : Opens image t) where
       unfolding verdict
       verdict-on =
           rw (
-            waw-on b G S T k fitting (s .number) all,
-            raw-on b G S T k fitting (s .number) all,
-            war-on b G S T k fitting (s .number) all,
+            depends-on b G S T k fitting (s .number) all Stores Write,
+            depends-on b G S T k fitting (s .number) all Reads Write,
+            depends-on b G S T k fitting (s .number) all Stores Read,
           )
           (decided-is b k (s .ran))
 
@@ -227,20 +233,18 @@ module _ (image t : List ℕ) (o : Opens image t) where
       table-settled = go (commits b k) ∙ sym (table-more b t S k (s .number) (s .unsettled))
         where
           go : (c : Bool) → settledTable (cond c Committed (Carried (reason b k))) k area table
-              ≡ cond c (storeAll (writeSet b k) (written b k) table) table
+              ≡ cond c (storeAll (writeSet b k) (newValues b k) table) table
           go true =
               rw (
                 table-length b t S,
-                own-stores b G S T k fitting (s .number) all,
+                own-list b G S T k fitting (s .number) all Stores,
                 own-values b G S T k fitting (s .number) all,
               )
           go false = refl
 
       area-settled : settledArea (decisionOn b k) T k area ≡ areaOn b G (also k S) T
-      unfolding settledArea
       area-settled =
-          rw (decision-state b k (s .ran), decision-detail b k (s .ran))
-          (settled-more b G S T k fitting (s .number) (s .own) (s .unsettled))
+          settled-more b G S T k fitting (s .number) (s .own) (s .unsettled) (decisionOn b k) (decision-state b k (s .ran)) (decision-detail b k (s .ran))
 
     pub settle-table-on : (k : ℕ) → settleTable image table area k ≡ tableOn b (settledToo k) t
     settle-table-on k =

@@ -5,7 +5,8 @@ use mathlib.Core.Bool.{false}
 use mathlib.Core.List.{List}
 use lib.ListN.{length}
 use Rattle.image.specs.Image.{countOf}
-use Rattle.carry.specs.Next.{isCarried}
+use Rattle.slot.specs.declared.Group.the-variants.{Carried}
+use Rattle.area.specs.Layout.{inGroup}
 use Rattle.promises.specs.Laid.{World}
 use Rattle.promises.specs.History.{RunToEnd}
 use Rattle.promises.specs.Batches.{Batches, EndsWithin}
@@ -13,7 +14,7 @@ use Rattle.promises.proofs.AtEnd.{paper-ends, end-zero}
 use Rattle.promises.proofs.Carrying.{ends-within}
 
 -- "Number 0 is never carried."
-pub zero-never-carried : (image t : List ℕ) (w : World) → RunToEnd image t w → isCarried (length t) (w .area) 0 ≡ false
+pub zero-never-carried : (image t : List ℕ) (w : World) → RunToEnd image t w → inGroup Carried (length t) (w .area) 0 ≡ false
 zero-never-carried image t w run = end-zero (paper-ends run)
 
 -- "So where each batch is run to its end and the next is made by this step, a program in place p (from 0) is committed, rejected or faulted within p+1

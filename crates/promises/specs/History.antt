@@ -11,7 +11,7 @@ use Rattle.area.specs.Checks.{openRefusal, allEnded}
 use Rattle.steps.specs.Opening.{openArea}
 use Rattle.steps.specs.Gathering.{gatherArea}
 use Rattle.steps.specs.Settling.{settleTable, settleArea}
-use Rattle.promises.specs.Paper.{batchOf, finished}
+use Rattle.promises.specs.Paper.{batchOf, getsSettled}
 use Rattle.promises.specs.Laid.{World}
 
 -- any program number at all, in the image or not
@@ -53,12 +53,12 @@ settles k (settle j ∷ h) = eqb k j || settles k h
 -- Every program's gathering stands in the first part and every gathered program's settling in the second, whatever stands between them.
 pub record Whole (image t : List ℕ) (first second : List Step) : Type 0 where
   pub all-gathered : (k : ℕ) → k < countOf image → gathers k first ≡ true
-  pub all-settled : (k : ℕ) → k < countOf image → finished (batchOf image t) k ≡ true → settles k second ≡ true
+  pub all-settled : (k : ℕ) → k < countOf image → getsSettled (batchOf image t) k ≡ true → settles k second ≡ true
 
 -- A batch run to its end: it was opened, a history was played, and no state is 0 or 1.
 pub record RunToEnd (image t : List ℕ) (w : World) : Type 0 where
   pub found : List ℕ
   pub history : List Step
-  pub opens : openRefusal image t found ≡ 0
+  pub opens : openRefusal image t found .number ≡ 0
   pub plays : w ≡ worldAfter image t found history
   pub over : isOver image w ≡ true

@@ -1,17 +1,19 @@
 -- The paper's batch laid out as document 01's table and work area, also on the way, when only some programs have been gathered and some settled.
 -- Assumes nothing.
 use Prim.Native.Nat.{ℕ, zero, suc}
-use mathlib.Core.Bool.{Bool, true, not, cond, _&&_, _||_}
+use mathlib.Core.Bool.{Bool, true, cond, _&&_}
 use mathlib.Core.List.{List, [], _++_}
-use lib.Dec.{eqb}
 use lib.ListN.{length, replicate}
 use Rattle.base.specs.Words.{first, tabulate, has}
-use Rattle.slot.specs.States.{waiting, committed, carried}
+use Rattle.slot.specs.States.{hasRun, isSettled}
 use Rattle.slot.specs.Layout.{slotWords}
-use Rattle.slot.specs.Log.{layout}
+use Rattle.slot.specs.Log.{cellsOf, layout}
 use Rattle.machine.specs.Runs.{slotOf}
+use Rattle.area.specs.declared.MarkKind.{MarkKind}
+use Rattle.area.specs.declared.MarkKind.the-variants.{Write, Read}
 use Rattle.area.specs.Layout.{stateOf}
-use Rattle.promises.specs.Paper.{Batch, batchOf, logOf, readSet, writeSet, commits, stateAfter, detailAfter, installed}
+use Rattle.area.specs.Marks.{listFor}
+use Rattle.promises.specs.Paper.{Batch, batchOf, sets, commits, stateAfter, detailAfter, installed}
 
 -- a table and a work area
 pub record World : Type 0 where
@@ -19,17 +21,14 @@ pub record World : Type 0 where
   pub area : List ℕ
 
 -- "0, or 1 + the smallest number of a gathered program that stores (reads) the cell"
-unfoldable pub writeMark : Batch → (gathered : ℕ → Bool) → ℕ → ℕ
-writeMark b gathered c = first (λ k. gathered k && has c (writeSet b k)) (b .programs)
-
-unfoldable pub readMark : Batch → (gathered : ℕ → Bool) → ℕ → ℕ
-readMark b gathered c = first (λ k. gathered k && has c (readSet b k)) (b .programs)
+unfoldable pub markOn : MarkKind → Batch → (gathered : ℕ → Bool) → ℕ → ℕ
+markOn m b gathered c = first (λ k. gathered k && has c (cellsOf (listFor m) (sets b k))) (b .programs)
 
 -- program k's slot: all 0 while it waits, then its run's, then with the state and detail that it ends with
 unfoldable pub slotOn : Batch → (gathered settled : ℕ → Bool) → ℕ → List ℕ
 slotOn b gathered settled k =
     cond (gathered k)
-    (cond (settled k) (layout (stateAfter b k) (detailAfter b k) (logOf b k)) (slotOf (b .runs k)))
+    (cond (settled k) (layout (stateAfter b k) (detailAfter b k) (sets b k)) (slotOf (b .runs k)))
     (replicate slotWords 0)
 
 unfoldable pub slotsTo : Batch → (gathered settled : ℕ → Bool) → ℕ → List ℕ
@@ -38,7 +37,8 @@ slotsTo b gathered settled (suc k) = slotsTo b gathered settled k ++ slotOn b ga
 
 -- T write marks, T read marks, the slots
 unfoldable pub areaOn : Batch → (gathered settled : ℕ → Bool) → ℕ → List ℕ
-areaOn b gathered settled T = tabulate (writeMark b gathered) T ++ (tabulate (readMark b gathered) T ++ slotsTo b gathered settled (b .programs))
+areaOn b gathered settled T =
+    tabulate (markOn Write b gathered) T ++ (tabulate (markOn Read b gathered) T ++ slotsTo b gathered settled (b .programs))
 
 -- the table has the stores of the committed programs that have been settled
 unfoldable pub tableOn : Batch → (settled : ℕ → Bool) → List ℕ → List ℕ
@@ -56,7 +56,7 @@ paperWorld image t = worldOn image t all all
 
 -- which programs an area says are gathered, and which settled
 unfoldable pub gatheredIn : ℕ → List ℕ → ℕ → Bool
-gatheredIn T a k = not (eqb (stateOf T k a) waiting)
+gatheredIn T a k = hasRun (stateOf T k a)
 
 unfoldable pub settledIn : ℕ → List ℕ → ℕ → Bool
-settledIn T a k = eqb (stateOf T k a) committed || eqb (stateOf T k a) carried
+settledIn T a k = isSettled (stateOf T k a)
