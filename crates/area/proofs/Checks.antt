@@ -11,7 +11,6 @@ use Rattle.base.specs.Words.{has}
 use Rattle.base.proofs.Bools.{and-both, both-and}
 use Rattle.base.proofs.Numbers.{every-at, every-from}
 use Rattle.base.proofs.Members.{has-getD}
-use Rattle.base.proofs.Parts.{words-has}
 use Rattle.image.specs.Limits.{maxPrograms, minCells, maxCells}
 use Rattle.image.specs.Refusals as refusal
 use Rattle.image.specs.Image.{countOf, refusalOf}
@@ -26,7 +25,7 @@ use Rattle.slot.proofs.ListKinds.{each-kind, list-lies}
 use Rattle.slot.proofs.Slots.{layout-state, layout-count, layout-list}
 use Rattle.area.specs.declared.MarkKind.{MarkKind}
 use Rattle.area.specs.declared.MarkKind.the-variants.{Write, Read}
-use Rattle.area.specs.Layout.{areaWords, marksAt, slotStart, stateOf, countAt, listAt, slotAt, listOf}
+use Rattle.area.specs.Layout.{areaWords, marksAt, slotStart, stateOf, countAt, listAt, slotAt}
 use Rattle.area.specs.Checks.{tableGood, sizeIs, allBelow, marksGood, stateGood, listGood, slotGood, slotsGood, wordsGood}
 use Rattle.area.specs.Checks.{roomRefusal, openRefusal, callRefusal, Checked, Measured, HasSlot, Slotted}
 use Rattle.area.proofs.Views.{each-mark, slot-word, state-in-slot, count-in-slot}
@@ -149,11 +148,6 @@ module _ (T k : ℕ) (a : List ℕ) where
         both-and
         (both-and (le-leb (stateOf T k a) lastState (omega (arith, state-in-slot T k a, p .state-few))) (passed-list Reads))
         (passed-list Stores)
-
-    -- program k's cells are the table's
-    pub list-below : (l : ListKind) (c : ℕ) → has c (listOf l T k a) ≡ true → c < T
-    unfolding listOf
-    list-below l c h = let w = words-has (listAt l T k) (getD a (countAt l T k) 0) a c h in omega (arith, list-in l (w .0) (w .1), w .2)
 
     pub slotted : HasSlot T k a → Slotted T k a
     slotted lies = record { lies = lies; few = count-few; inside = list-in }

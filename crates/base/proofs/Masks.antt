@@ -10,10 +10,9 @@ use lib.Dec.{eqb}
 use lib.Bits.{bitAnd, bitOr, bitXor, and-block, or-block, xor-block, or-shifted-r, or-zero-r, and-mask}
 use lib.Count.{under, trailingZeros}
 use lib.Pow.{pow-pos, pow-add, shl-exact, shr-shr, high, low}
-use borrow.Author.Tests.{eqb-true, eq-eqb, ne-eqb}
+use borrow.Author.Tests.{eq-eqb, ne-eqb}
 use Rattle.base.specs.Words.{first}
 use Rattle.base.specs.Masks.{wordBits, hasBit, maskOf}
-use Rattle.base.proofs.Bools.{known, clash, not-true, and-both, both-and}
 use Rattle.base.proofs.Numbers.{below, zero-or, first-is, first-none}
 
 unfoldable pub bitOf : Bool → ℕ
@@ -129,18 +128,6 @@ mask-zero p n = go (zero-or (first p n))
     go (inr w) =
         let t = first-is p n (w .0) (w .1) in
         ne-eqb (maskOf p n) 0 (λ z. omega (arith, mask-some p n (w .0) (t .0) (t .1), pow-pos (w .0))) ∙ sym (ne-eqb (first p n) 0 (λ z. omega (arith, w .1)))
-
-pub bit-at : (p : ℕ → Bool) (n i : ℕ) → i < n → not (eqb (bitAnd (maskOf p n) (2 ^ i)) 0) ≡ p i
-bit-at p n i l = rw (← one-bit n i l, and-masks p (λ j. eqb j i) n) (go (known (p i)))
-  where
-    alone : p i ≡ false → (j : ℕ) → j < n → p j && eqb j i ≡ false
-    alone e j h = not-true (λ z. let t = and-both (p j) (eqb j i) z in clash (t .0) (ap p (eqb-true j i (t .1)) ∙ e))
-
-    go : (p i ≡ true) ⊎ (p i ≡ false) → not (eqb (maskOf (λ j. p j && eqb j i) n) 0) ≡ p i
-    go (inl e) =
-        let s = mask-some (λ j. p j && eqb j i) n i l (both-and e (eq-eqb i i refl)) in
-        rw (ne-eqb (maskOf (λ j. p j && eqb j i) n) 0 (λ z. omega (arith, s, pow-pos i))) (sym e)
-    go (inr e) = rw (mask-none (λ j. p j && eqb j i) n (alone e)) (sym e)
 
 -- those below m, and then those from m on
 pub mask-append : (p : ℕ → Bool) (m k : ℕ) → maskOf p (m + k) ≡ maskOf (λ j. p (m + j)) k * 2 ^ m + maskOf p m

@@ -1,28 +1,19 @@
 -- A turn of a loop: a search that goes up through the numbers, and a walk over the words of a part. Assumes nothing.
-use mathlib.Core.Path.{_≡_, refl}
+use mathlib.Core.Path.{_≡_}
 use mathlib.Core.Logic.{_⊎_, inl, inr}
 use mathlib.Core.Bool.{Bool, true, false}
 use mathlib.Core.List.{List, [], _∷_}
 use Prim.Native.Nat.{ℕ, suc, _+_, _-_, _≤_, _<_}
 use native.Mathlib.Omega.{arith}
-use native.Mathlib.Numerals.{add-one}
 use lib.Dec.{ltb}
 use lib.ListN.{length, getD}
 use lib.Seq.{drop-cons}
 use borrow.Author.Tests.{ltb-true, ltb-false}
-use Rattle.base.specs.Words.{orElse, first, has, meets, words}
+use Rattle.base.specs.Words.{first, words}
 use Rattle.base.proofs.Bools.{known, clash}
 use Rattle.base.proofs.Numbers.{first-none, first-unique}
 
 -- ---- the search for the first number that passes: none yet, none at i either, i is the one
-
-pub first-none-yet : (p : ℕ → Bool) → first p 0 ≡ 0
-unfolding first
-first-none-yet p = refl
-
-pub first-next : (p : ℕ → Bool) (i : ℕ) → first p i ≡ 0 → p i ≡ false → first p (i + 1) ≡ 0
-unfolding first orElse
-first-next p i e f = rw (add-one, e, f)
 
 pub first-at : (p : ℕ → Bool) (n i : ℕ) → first p i ≡ 0 → p i ≡ true → i < n → i + 1 ≡ first p n
 first-at p n i e f l =
@@ -50,18 +41,3 @@ module _ (l : List ℕ) (at n : ℕ) (lies : at + n ≤ length l) where
   pub words-end : (k : ℕ) → n ≤ k → words (at + k) (n - k) l ≡ []
   unfolding words
   words-end k h = let e : n - k ≡ 0 = omega arith in rw e
-
-  -- looking for one that is a member of ys
-  module _ (ys : List ℕ) where
-    pub meets-found : (k : ℕ) → k < n → has (getD l (at + k) 0) ys ≡ true → meets (words (at + k) (n - k) l) ys ≡ true
-    unfolding meets
-    meets-found k h e = rw (words-next k h, e)
-
-    pub meets-turn : (k : ℕ) → k < n → has (getD l (at + k) 0) ys ≡ false
-        → meets (words (at + (k + 1)) (n - (k + 1)) l) ys ≡ meets (words (at + k) (n - k) l) ys
-    unfolding meets
-    meets-turn k h e = rw (words-next k h, e)
-
-    pub meets-end : (k : ℕ) → n ≤ k → meets (words (at + k) (n - k) l) ys ≡ false
-    unfolding meets
-    meets-end k h = rw (words-end k h)

@@ -15,10 +15,10 @@ use Rattle.image.specs.Limits.{registers, maxProgramBytes}
 use Rattle.image.specs.Instruction.{instructionsOf, programGood}
 use Rattle.image.specs.Image.{countOf, refusalOf, partOf, codeGood}
 use Rattle.image.proofs.Laws.{accepted, part-short, part-whole}
-use Rattle.slot.specs.Layout.{stateWord, detailWord, listWords, slotWords}
+use Rattle.slot.specs.Layout.{stateWord, detailWord, listWords}
 use Rattle.slot.specs.Log.{Log, empty, placeIn, valueBy, loaded, withRead, valuesBy, withStore, logOf, Fits}
 use Rattle.slot.proofs.Logs.{Room, read-fits, store-fits, read-room, store-room, empty-room, same-room, read-keeps, store-keeps, loads-agree}
-use Rattle.slot.proofs.Slots.{zeros-at, empty-fits, layout-length, layout-state, layout-detail, layout-log}
+use Rattle.slot.proofs.Slots.{zeros-at, empty-fits, layout-state, layout-detail, layout-log}
 use Rattle.machine.specs.declared.Machine.{Machine}
 use Rattle.machine.specs.declared.Run.{Run}
 use Rattle.machine.specs.declared.Run.the-variants.{Finished, Rejected, Faulted}
@@ -255,10 +255,6 @@ kept-fits T (Faulted kind at) l f = empty-fits T
 module _ (p t : List ℕ) (short : length p ≤ maxProgramBytes) where
   pub run-kept : Fits (length t) (keptBy (runOf p t))
   run-kept = kept-fits (length t) (runOf p t .answer) (runOf p t .log) (run-fits p t short)
-
-  pub slot-of-length : length (slotOf (runOf p t)) ≡ slotWords
-  unfolding slotOf
-  slot-of-length = layout-length _ _ _ (length t) run-kept
 
   pub slot-of-state : getD (slotOf (runOf p t)) stateWord 0 ≡ stateOfRun (runOf p t .answer)
   unfolding slotOf

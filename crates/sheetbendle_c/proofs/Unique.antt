@@ -4,7 +4,7 @@ use mathlib.Core.List.{List}
 use Prim.Native.Nat.{ℕ}
 use denote.Ref.{now}
 use mathlib.Core.Path.{_≡_, sym, ap, _∙_}
-use Rattle.base.proofs.Unique.{Unique}
+use Rattle.base.specs.Unique.{Unique}
 use Rattle.image.specs.Refusals.{Counted}
 use Rattle.numbers.proofs.Unique.{told-once}
 use Rattle.numbers.specs.declared.StepNumbers.{StepNumbers}

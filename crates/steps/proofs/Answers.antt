@@ -1,40 +1,32 @@
--- The numbers of an answer are the two words of the slot that the call leaves; on a refusal they are its number and 0, and nothing is changed.
--- Assumes nothing.
+-- The numbers of an answer that is no refusal are the two words of the slot that the call leaves. Assumes nothing.
 use Prim.Native.Nat.{ℕ, _+_, _≤_, _<_}
 use mathlib.Core.Path.{_≡_, refl, sym, ap, _∙_}
 use mathlib.Core.Bool.{Bool, true, false}
 use mathlib.Core.List.{List}
 use native.Mathlib.Omega.{arith}
 use lib.ListN.{length, getD}
-use Rattle.image.proofs.Refusing.{unless-refused, unless-done}
+use Rattle.image.proofs.Refusing.{unless-done}
 use Rattle.image.specs.Image.{countOf, partOf}
 use Rattle.slot.specs.Layout.{stateWord, detailWord, slotWords}
 use Rattle.machine.specs.Runs.{stateOfRun, detailOfRun}
 use Rattle.machine.proofs.Laws.{part-runnable, slot-of-state, slot-of-detail}
 use Rattle.area.specs.Layout.{slotStart}
-use Rattle.area.specs.Checks.{openRefusal, Checked}
+use Rattle.area.specs.Checks.{Checked}
 use Rattle.area.proofs.Views.{state-in-slot, detail-in-slot}
 use Rattle.area.proofs.Changes.{state-back, detail-back}
 use Rattle.steps.specs.declared.Gathered.the-variants as gathering
 use Rattle.steps.specs.declared.Settled.{Settled}
 use Rattle.steps.specs.declared.Settled.the-variants as settling
-use Rattle.steps.specs.Answers.{Numbers, refusedBy, doneWith, wordsOf, numbersOfGathered, numbersOfSettled}
-use Rattle.steps.specs.Opening.{cleared, openArea}
+use Rattle.steps.specs.Answers.{Numbers, doneWith, wordsOf, numbersOfGathered, numbersOfSettled}
 use Rattle.steps.specs.Gathering.{gatherRefusal, runAt, gatheredArea, gatherAnswer, gatherArea}
-use Rattle.steps.specs.Settling.{settleRefusal, byRule1, byRule2, decided, verdict, settledTable, settledArea, settleAnswer}
-use Rattle.steps.specs.Settling.{settleTable, settleArea}
+use Rattle.steps.specs.Settling.{settleRefusal, byRule1, byRule2, decided, verdict, settledArea, settleAnswer}
+use Rattle.steps.specs.Settling.{settleArea}
 use Rattle.steps.proofs.Refusals.{gather-shows, settle-shows}
 use Rattle.steps.proofs.Views.{gathered-own}
 use Rattle.steps.proofs.Keeps.{fits}
 
 same-numbers : (x : Numbers) (state detail : ℕ) → x .refusal ≡ 0 → state ≡ x .state → detail ≡ x .detail → x ≡ doneWith state detail
 same-numbers x state detail e f g = rw (f, g) (ap (λ (r : ℕ). record { refusal = r; state = x .state; detail = x .detail }) e)
-
--- ---- opening
-
-pub open-nothing : (image t a : List ℕ) → (openRefusal image t a .number ≡ 0 → ⊥) → openArea image t a ≡ a
-unfolding openArea
-open-nothing image t a h = unless-refused (openRefusal image t a) (λ r. a) (cleared a) h
 
 -- ---- gathering
 
@@ -55,14 +47,6 @@ module _ (image t a : List ℕ) (k : ℕ) where
       let w = gather-shows image t a k e in
       ap numbersOfGathered (unless-done (gatherRefusal image t a k) gathering.Refused (gathering.Ran (runAt image t k .answer)) e)
       ∙ (left-words (w .0) (w .1) ∙ ap (wordsOf (length t) k) (sym (unless-done (gatherRefusal image t a k) (λ r. a) (gatheredArea image t k a) e)))
-
-  pub gather-nothing : (gatherRefusal image t a k .number ≡ 0 → ⊥)
-      → (numbersOfGathered (gatherAnswer image t a k) ≡ refusedBy (gatherRefusal image t a k)) × (gatherArea image t a k ≡ a)
-  unfolding gatherAnswer gatherArea
-  gather-nothing h = (
-    ap numbersOfGathered (unless-refused (gatherRefusal image t a k) gathering.Refused (gathering.Ran (runAt image t k .answer)) h),
-    unless-refused (gatherRefusal image t a k) (λ r. a) (gatheredArea image t k a) h,
-  )
 
 -- ---- settling
 
@@ -98,14 +82,3 @@ module _ (image t a : List ℕ) (k : ℕ) where
       ap numbersOfSettled (unless-done (settleRefusal image t a k) settling.Refused v e)
       ∙ (settled-words (w .0) (w .1) v (decided-done _ _ _ _)
       ∙ ap (wordsOf (length t) k) (sym (unless-done (settleRefusal image t a k) (λ r. a) (settledArea v (length t) k a) e)))
-
-  pub settle-nothing : (settleRefusal image t a k .number ≡ 0 → ⊥)
-      → (numbersOfSettled (settleAnswer image t a k) ≡ refusedBy (settleRefusal image t a k))
-      × (settleTable image t a k ≡ t) × (settleArea image t a k ≡ a)
-  unfolding settleAnswer settleTable settleArea
-  settle-nothing h =
-      let v : Settled = verdict image (length t) k a in (
-        ap numbersOfSettled (unless-refused (settleRefusal image t a k) settling.Refused v h),
-        unless-refused (settleRefusal image t a k) (λ r. t) (settledTable v k a t) h,
-        unless-refused (settleRefusal image t a k) (λ r. a) (settledArea v (length t) k a) h,
-      )

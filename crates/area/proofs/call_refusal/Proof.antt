@@ -23,15 +23,9 @@ looked : (c : tie.After-words-good)
     → let a = start (first-of c) .args in c .words-good .result ≡ wordsGood (length (a .table .now)) (countOf (a .image .now)) (a .area .now)
 looked c = rw (← c .before .count .ensures .0) (c .words-good .ensures)
 
-open-refusal-requires : tie.Need-open-refusal-requires
-open-refusal-requires c κs = search needs
-
 returns : tie.Need-returns
 unfolding callRefusal
 returns c = first-refuses _ (c .before .before .open-refusal .ensures) (c .if1 .taken)
-
-count-requires : tie.Need-count-requires
-count-requires c κs = search needs
 
 words-good-requires : tie.Need-words-good-requires
 words-good-requires c κs = room-measured _ _ _ (passed (c .before)) _ (c .count .ensures .0)
@@ -51,4 +45,4 @@ returns-3 c =
 pub call-refusal-spec : {M : Type 1} → statement M
 call-refusal-spec =
     tie.close
-    (tie.spec open-refusal-requires returns count-requires words-good-requires returns-2 returns-3)
+    (tie.spec (λ c κs. search needs) returns (λ c κs. search needs) words-good-requires returns-2 returns-3)

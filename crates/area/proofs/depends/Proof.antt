@@ -5,12 +5,6 @@ use borrow.Author.Needs.{needs}
 use Rattle.area.proofs.depends.Statement.{statement}
 use Rattle.area.proofs.depends.Tie as tie
 
-span-of-requires : tie.Need-span-of-requires
-span-of-requires c κs = search needs
-
-marks-start-requires : tie.Need-marks-start-requires
-marks-start-requires c κs = search needs
-
 hit-requires : tie.Need-hit-requires
 hit-requires c κs =
     let s = c .before in
@@ -26,4 +20,4 @@ returns c =
     by-span _ _ _ (a .list) _ (s .span-of .ensures) (λ m cs. hit m cs (a .number) (a .area .now)) _ _ (m .marks-start .ensures) _ (c .hit .ensures)
 
 pub depends-spec : {M : Type 1} → statement M
-depends-spec = tie.close (tie.spec span-of-requires marks-start-requires hit-requires returns)
+depends-spec = tie.close (tie.spec (λ c κs. search needs) (λ c κs. search needs) hit-requires returns)

@@ -23,15 +23,9 @@ looked : (c : tie.After-states-from)
     → let a = start (first-of c) .args in c .states-from .result ≡ allEnded (length (a .table .now)) (countOf (a .image .now)) (a .area .now)
 looked c = rw (← c .before .count .ensures .0) (c .states-from .ensures)
 
-call-refusal-requires : tie.Need-call-refusal-requires
-call-refusal-requires c κs = search needs
-
 returns : tie.Need-returns
 unfolding endedRefusal
 returns c = first-refuses _ (c .before .before .call-refusal .ensures) (c .if1 .taken)
-
-count-requires : tie.Need-count-requires
-count-requires c κs = search needs
 
 states-from-requires : tie.Need-states-from-requires
 states-from-requires c κs = measured _ _ _ (checked _ _ _ (passed (c .before))) _ (c .count .ensures .0)
@@ -52,9 +46,9 @@ pub ended-refusal-spec : {M : Type 1} → statement M
 ended-refusal-spec =
     tie.close
     (tie.spec
-    call-refusal-requires
+    (λ c κs. search needs)
     returns
-    count-requires
+    (λ c κs. search needs)
     states-from-requires
     returns-2
     returns-3)

@@ -25,15 +25,6 @@ there c = c .before .before .before .pre .before-at (c .before .loop .i) (c .loo
 loop-holds : tie.Need-loop-holds Inv-loop μ-loop
 loop-holds c = (omega arith, refl)
 
-add-c : tie.Need-add-c Inv-loop μ-loop
-add-c c = search needs
-
-mul-c : tie.Need-mul-c Inv-loop μ-loop
-mul-c c = search needs
-
-shared-slice-read-c : tie.Need-shared-slice-read-c Inv-loop μ-loop
-shared-slice-read-c c = search needs
-
 cast-c : tie.Need-cast-c Inv-loop μ-loop
 cast-c c = omega (arith, c .shared-slice-known2 .given (c .before .before .before .before .args .at + c .before .before .loop .i))
 
@@ -46,21 +37,12 @@ mul-earlier c = omega (arith, there (c .before))
 shared-slice-read-earlier : tie.Need-shared-slice-read-earlier Inv-loop μ-loop
 shared-slice-read-earlier c = omega (arith, there (c .before .before))
 
-earlier-requires : tie.Need-earlier-requires Inv-loop μ-loop
-earlier-requires c κs = search needs
-
 returns : tie.Need-returns Inv-loop μ-loop
 returns c =
     let t = c .before .before .before .before in
     let l = t .before .loop in
     sym (sym (l .inv .1) ∙ hit-found _ _ _ _ _ (t .before .before .before .pre) (l .i) (t .loop-test .taken)
     (sym (c .before .earlier .ensures) ∙ c .if1 .taken))
-
-add-i : tie.Need-add-i Inv-loop μ-loop
-add-i c = search needs
-
-loop-less : tie.Need-loop-less Inv-loop μ-loop
-loop-less c = search needs
 
 loop-again : tie.Need-loop-again Inv-loop μ-loop
 loop-again c =
@@ -83,16 +65,16 @@ hit-spec =
     Inv-loop
     μ-loop
     loop-holds
-    add-c
-    mul-c
-    shared-slice-read-c
+    (λ c. search needs)
+    (λ c. search needs)
+    (λ c. search needs)
     cast-c
     add-earlier
     mul-earlier
     shared-slice-read-earlier
-    earlier-requires
+    (λ c κs. search needs)
     returns
-    add-i
-    loop-less
+    (λ c. search needs)
+    (λ c. search needs)
     loop-again
     returns-2)

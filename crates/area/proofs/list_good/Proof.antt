@@ -4,9 +4,6 @@ use borrow.Author.Needs.{needs}
 use Rattle.area.proofs.list_good.Statement.{statement}
 use Rattle.area.proofs.list_good.Tie as tie
 
-span-of-requires : tie.Need-span-of-requires
-span-of-requires c κs = search needs
-
 returns : tie.Need-returns
 returns c = let s = c .before .before in list-long _ _ _ (s .before .before .args .list) _ (s .span-of .ensures) (c .if1 .taken)
 
@@ -22,4 +19,4 @@ returns-2 c =
     list-short _ _ _ (s .before .before .args .list) _ (s .span-of .ensures) (t .if1 .left) _ (c .all-below .ensures)
 
 pub list-good-spec : {M : Type 1} → statement M
-list-good-spec = tie.close (tie.spec span-of-requires returns all-below-requires returns-2)
+list-good-spec = tie.close (tie.spec (λ c κs. search needs) returns all-below-requires returns-2)

@@ -23,20 +23,11 @@ loop-holds c = (omega arith, sym (mask-start _))
 state-requires : tie.Need-state-requires Inv-loop μ-loop
 state-requires c κs = measured-lies _ _ _ (c .before .before .before .pre) _ (c .loop-test .taken)
 
-is-in-requires : tie.Need-is-in-requires Inv-loop μ-loop
-is-in-requires c κs = search needs
-
 with-bit-requires : tie.Need-with-bit-requires Inv-loop μ-loop
 with-bit-requires c κs =
     let l = c .before .before .before .loop in
     let m = c .before .before .before .before .before .pre in
     (omega (arith, m .programs-few), rw (l .inv .1) (mask-lt _ _))
-
-add-k : tie.Need-add-k Inv-loop μ-loop
-add-k c = search needs
-
-loop-less : tie.Need-loop-less Inv-loop μ-loop
-loop-less c = search needs
 
 loop-again : tie.Need-loop-again Inv-loop μ-loop
 unfolding inGroup
@@ -56,9 +47,9 @@ members-spec =
     μ-loop
     loop-holds
     state-requires
-    is-in-requires
+    (λ c κs. search needs)
     with-bit-requires
-    add-k
-    loop-less
+    (λ c. search needs)
+    (λ c. search needs)
     loop-again
     returns)

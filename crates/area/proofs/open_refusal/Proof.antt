@@ -8,15 +8,9 @@ use borrow.Author.Needs.{needs}
 use Rattle.area.proofs.open_refusal.Statement.{statement}
 use Rattle.area.proofs.open_refusal.Tie as tie
 
-image-refusal-requires : tie.Need-image-refusal-requires
-image-refusal-requires c κs = search needs
-
 returns : tie.Need-returns
 unfolding openRefusal
 returns c = first-refuses _ (c .before .before .image-refusal .ensures) (c .if1 .taken)
-
-count-requires : tie.Need-count-requires
-count-requires c κs = search needs
 
 room-refusal-requires : tie.Need-room-refusal-requires
 room-refusal-requires c κs =
@@ -34,4 +28,4 @@ returns-2 c =
 pub open-refusal-spec : {M : Type 1} → statement M
 open-refusal-spec =
     tie.close
-    (tie.spec image-refusal-requires returns count-requires room-refusal-requires returns-2)
+    (tie.spec (λ c κs. search needs) returns (λ c κs. search needs) room-refusal-requires returns-2)

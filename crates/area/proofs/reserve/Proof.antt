@@ -5,20 +5,11 @@ use borrow.Author.Needs.{needs}
 use Rattle.area.proofs.reserve.Statement.{statement}
 use Rattle.area.proofs.reserve.Tie as tie
 
-span-of-requires : tie.Need-span-of-requires
-span-of-requires c κs = search needs
-
-marks-start-requires : tie.Need-marks-start-requires
-marks-start-requires c κs = search needs
-
 reserve-cells-requires : tie.Need-reserve-cells-requires
 reserve-cells-requires c κs =
     let s = c .before .before in
     let b = s .before .before .before in
     (names-list _ _ _ (b .args .list) _ (s .span-of .ensures) (b .pre) (b .args .marks) _ (c .marks-start .ensures), b .pre .lies .number-few)
-
-same-length : tie.Need-same-length
-same-length c = search needs
 
 returns : tie.Need-returns
 returns c =
@@ -31,4 +22,4 @@ returns c =
 pub reserve-spec : {M : Type 1} → statement M
 reserve-spec =
     tie.close
-    (tie.spec span-of-requires marks-start-requires reserve-cells-requires same-length returns)
+    (tie.spec (λ c κs. search needs) (λ c κs. search needs) reserve-cells-requires (λ c. search needs) returns)

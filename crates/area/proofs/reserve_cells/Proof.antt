@@ -22,15 +22,6 @@ there c = mark-there _ _ _ _ _ (c .before .before .before .pre .0) _ _ (c .befor
 loop-holds : tie.Need-loop-holds Inv-loop μ-loop
 loop-holds c = reserving-start _ _ _ _ _
 
-add-c : tie.Need-add-c Inv-loop μ-loop
-add-c c = search needs
-
-mul-c : tie.Need-mul-c Inv-loop μ-loop
-mul-c c = search needs
-
-slice-read-c : tie.Need-slice-read-c Inv-loop μ-loop
-slice-read-c c = search needs
-
 cast-c : tie.Need-cast-c Inv-loop μ-loop
 cast-c c = omega (arith, c .slice-known2 .given (c .before .before .before .before .args .at + c .before .before .loop .i))
 
@@ -43,15 +34,6 @@ mul-m c = omega (arith, there (c .before))
 slice-read-m : tie.Need-slice-read-m Inv-loop μ-loop
 slice-read-m c = omega (arith, there (c .before .before))
 
-add-lowered : tie.Need-add-lowered Inv-loop μ-loop
-add-lowered c = search needs
-
-cast-lowered : tie.Need-cast-lowered Inv-loop μ-loop
-cast-lowered c = search needs
-
-lowered-requires : tie.Need-lowered-requires Inv-loop μ-loop
-lowered-requires c κs = search needs
-
 add-area : tie.Need-add-area Inv-loop μ-loop
 add-area c = omega (arith, there (c .before .before .before))
 
@@ -60,12 +42,6 @@ mul-area c = omega (arith, there (c .before .before .before))
 
 slice-write-area : tie.Need-slice-write-area Inv-loop μ-loop
 slice-write-area c = omega (arith, there (c .before .before .before))
-
-add-i : tie.Need-add-i Inv-loop μ-loop
-add-i c = search needs
-
-loop-less : tie.Need-loop-less Inv-loop μ-loop
-loop-less c = search needs
 
 loop-again : tie.Need-loop-again Inv-loop μ-loop
 loop-again c =
@@ -85,21 +61,21 @@ reserve-cells-spec =
     Inv-loop
     μ-loop
     loop-holds
-    add-c
-    mul-c
-    slice-read-c
+    (λ c. search needs)
+    (λ c. search needs)
+    (λ c. search needs)
     cast-c
     add-m
     mul-m
     slice-read-m
-    add-lowered
-    cast-lowered
-    lowered-requires
+    (λ c. search needs)
+    (λ c. search needs)
+    (λ c κs. search needs)
     add-area
     mul-area
     slice-write-area
-    add-i
-    loop-less
+    (λ c. search needs)
+    (λ c. search needs)
     loop-again
     same-length
     returns)

@@ -25,9 +25,6 @@ cells-few : (c : tie.Else1) → length (now (start c .args .table)) ≤ maxCells
 unfolding tableGood
 cells-few c = leb-true _ _ (and-right (leb 1 (length (now (start c .args .table)))) _ (good c))
 
-table-good-requires : tie.Need-table-good-requires
-table-good-requires c κs = search needs
-
 returns : tie.Need-returns
 unfolding roomRefusal
 returns c = refuses _ (c .before .table-good .ensures) (c .if1 .taken)
@@ -45,4 +42,4 @@ returns-3 c = goes-on _ (good (c .before .before)) (goes-on _ (eq-eqb _ _ (c .if
 
 pub room-refusal-spec : {M : Type 1} → statement M
 room-refusal-spec =
-    tie.close (tie.spec table-good-requires returns slot-start-requires returns-2 returns-3)
+    tie.close (tie.spec (λ c κs. search needs) returns slot-start-requires returns-2 returns-3)

@@ -13,22 +13,13 @@ use Rattle.area.proofs.slot_good.Tie as tie
 state-good : (c : tie.Else1) → let a = c .before .before .before .args in stateGood (a .cells) (a .k) (a .area .now) ≡ true
 state-good c = let h : stateOf _ _ _ ≤ lastState = rw (c .before .state .ensures) at (c .if1 .left) in le-leb _ _ h
 
-state-requires : tie.Need-state-requires
-state-requires c κs = search needs
-
 returns : tie.Need-returns
 unfolding slotGood
 returns c = let h : lastState < stateOf _ _ _ = rw (c .before .state .ensures) at (c .if1 .taken) in rw (lt-leb _ _ h)
 
-list-good-requires : tie.Need-list-good-requires
-list-good-requires c κs = search needs
-
 returns-2 : tie.Need-returns-2
 unfolding slotGood
 returns-2 c = rw (state-good (c .before .before), sym (c .before .list-good .ensures) ∙ not-true _ (c .if2 .taken))
-
-list-good-requires-2 : tie.Need-list-good-requires-2
-list-good-requires-2 c κs = search needs
 
 returns-3 : tie.Need-returns-3
 unfolding slotGood
@@ -39,4 +30,4 @@ returns-3 c =
 pub slot-good-spec : {M : Type 1} → statement M
 slot-good-spec =
     tie.close
-    (tie.spec state-requires returns list-good-requires returns-2 list-good-requires-2 returns-3)
+    (tie.spec (λ c κs. search needs) returns (λ c κs. search needs) returns-2 (λ c κs. search needs) returns-3)

@@ -29,12 +29,6 @@ unfolding slotsGood
 returns c =
     sym (every-false _ _ (c .before .before .before .loop .k) (omega arith) (sym (c .before .slot-good .ensures) ∙ not-true _ (c .if1 .taken)))
 
-add-k : tie.Need-add-k Inv-loop μ-loop
-add-k c = search needs
-
-loop-less : tie.Need-loop-less Inv-loop μ-loop
-loop-less c = search needs
-
 loop-again : tie.Need-loop-again Inv-loop μ-loop
 loop-again c =
     (search needs, every-more _ _ (c .before .before .before .loop .inv .1) (sym (c .before .slot-good .ensures) ∙ not-false _ (c .if1 .left)))
@@ -52,7 +46,7 @@ slots-good-spec =
     loop-holds
     slot-good-requires
     returns
-    add-k
-    loop-less
+    (λ c. search needs)
+    (λ c. search needs)
     loop-again
     returns-2)

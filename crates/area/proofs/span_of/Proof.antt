@@ -13,19 +13,10 @@ counted-in c =
     let b = c .before .before .before in
     omega (arith, b .pre .lies, c .before .slot-start .ensures, c .count-word .ensures, count-low (b .args .list) .1)
 
-slot-start-requires : tie.Need-slot-start-requires
-slot-start-requires c κs = search needs
-
-count-word-requires : tie.Need-count-word-requires
-count-word-requires c κs = search needs
-
 add-counted : tie.Need-add-counted
 add-counted c =
     let b = c .before .before .before in
     omega (arith, b .pre, c .before .slot-start .ensures, c .count-word .ensures, count-low (b .args .list) .1)
-
-first-word-requires : tie.Need-first-word-requires
-first-word-requires c κs = search needs
 
 add-at : tie.Need-add-at
 add-at c =
@@ -48,10 +39,10 @@ pub span-of-spec : {M : Type 1} → statement M
 span-of-spec =
     tie.close
     (tie.spec
-    slot-start-requires
-    count-word-requires
+    (λ c κs. search needs)
+    (λ c κs. search needs)
     add-counted
-    first-word-requires
+    (λ c κs. search needs)
     add-at
     mul-count
     shared-slice-read-count

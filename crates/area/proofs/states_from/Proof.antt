@@ -32,12 +32,6 @@ returns c =
     let low : stateOf _ _ _ < _ = rw (c .before .state .ensures) at (c .if1 .taken) in
     sym (every-false _ _ (c .before .before .before .loop .k) (omega arith) (lt-leb _ _ low))
 
-add-k : tie.Need-add-k Inv-loop μ-loop
-add-k c = search needs
-
-loop-less : tie.Need-loop-less Inv-loop μ-loop
-loop-less c = search needs
-
 loop-again : tie.Need-loop-again Inv-loop μ-loop
 loop-again c =
     let high : _ ≤ stateOf _ _ _ = rw (c .before .state .ensures) at (c .if1 .left) in
@@ -56,7 +50,7 @@ states-from-spec =
     loop-holds
     state-requires
     returns
-    add-k
-    loop-less
+    (λ c. search needs)
+    (λ c. search needs)
     loop-again
     returns-2)

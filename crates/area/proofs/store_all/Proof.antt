@@ -22,26 +22,8 @@ abbrev μ-loop : tie.MeasureT-loop
 loop-holds : tie.Need-loop-holds Inv-loop μ-loop
 loop-holds c = (omega arith, refl, refl)
 
-add-c : tie.Need-add-c Inv-loop μ-loop
-add-c c = search needs
-
-mul-c : tie.Need-mul-c Inv-loop μ-loop
-mul-c c = search needs
-
-shared-slice-read-c : tie.Need-shared-slice-read-c Inv-loop μ-loop
-shared-slice-read-c c = search needs
-
 cast-c : tie.Need-cast-c Inv-loop μ-loop
 cast-c c = omega (arith, c .shared-slice-known .given (c .before .before .before .args .cells + c .before .before .loop .i))
-
-add-table : tie.Need-add-table Inv-loop μ-loop
-add-table c = search needs
-
-mul-table : tie.Need-mul-table Inv-loop μ-loop
-mul-table c = search needs
-
-shared-slice-read-table : tie.Need-shared-slice-read-table Inv-loop μ-loop
-shared-slice-read-table c = search needs
 
 mul-table-2 : tie.Need-mul-table-2 Inv-loop μ-loop
 mul-table-2 c =
@@ -51,12 +33,6 @@ slice-write-table : tie.Need-slice-write-table Inv-loop μ-loop
 slice-write-table c =
     omega (arith, c .before .before .before .before .pre .in-table (c .before .before .before .loop .i) (c .before .before .loop-test .taken))
 
-add-i : tie.Need-add-i Inv-loop μ-loop
-add-i c = search needs
-
-loop-less : tie.Need-loop-less Inv-loop μ-loop
-loop-less c = search needs
-
 loop-again : tie.Need-loop-again Inv-loop μ-loop
 loop-again c =
     let l = c .before .before .before .loop in (
@@ -64,9 +40,6 @@ loop-again c =
       simp length-set (l .inv .1),
       storing-next _ _ _ _ _ (c .before .before .before .before .pre) (l .i) (l .table) (l .inv .2) (c .before .before .loop-test .taken),
     )
-
-same-length : tie.Need-same-length Inv-loop μ-loop
-same-length c = search needs
 
 returns : tie.Need-returns Inv-loop μ-loop
 returns c =
@@ -80,17 +53,17 @@ store-all-spec =
     Inv-loop
     μ-loop
     loop-holds
-    add-c
-    mul-c
-    shared-slice-read-c
+    (λ c. search needs)
+    (λ c. search needs)
+    (λ c. search needs)
     cast-c
-    add-table
-    mul-table
-    shared-slice-read-table
+    (λ c. search needs)
+    (λ c. search needs)
+    (λ c. search needs)
     mul-table-2
     slice-write-table
-    add-i
-    loop-less
+    (λ c. search needs)
+    (λ c. search needs)
     loop-again
-    same-length
+    (λ c. search needs)
     returns)

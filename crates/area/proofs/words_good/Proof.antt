@@ -22,34 +22,13 @@ reads-are c =
     let a = start (first c .before) .args in
     c .all-below2 .ensures ∙ ap (λ (m : ℕ). allBelow (a .n + 1) m (a .cells) (a .area .now)) (c .before .marks-start2 .ensures)
 
-add-all-below : tie.Need-add-all-below
-add-all-below c = search needs
-
-marks-start-requires : tie.Need-marks-start-requires
-marks-start-requires c κs = search needs
-
-all-below-requires : tie.Need-all-below-requires
-all-below-requires c κs = search needs
-
 returns : tie.Need-returns
 unfolding wordsGood
 returns c = rw (sym (writes-are (c .before)) ∙ not-true _ (c .if1 .taken))
 
-add-all-below-2 : tie.Need-add-all-below-2
-add-all-below-2 c = search needs
-
-marks-start-requires-2 : tie.Need-marks-start-requires-2
-marks-start-requires-2 c κs = search needs
-
-all-below-requires-2 : tie.Need-all-below-requires-2
-all-below-requires-2 c κs = search needs
-
 returns-2 : tie.Need-returns-2
 unfolding wordsGood
 returns-2 c = rw (sym (writes-are (first (c .before) .before)) ∙ not-false _ (first (c .before) .if1 .left), sym (reads-are (c .before)) ∙ not-true _ (c .if2 .taken))
-
-slots-good-requires : tie.Need-slots-good-requires
-slots-good-requires c κs = search needs
 
 returns-3 : tie.Need-returns-3
 unfolding wordsGood
@@ -62,13 +41,13 @@ pub words-good-spec : {M : Type 1} → statement M
 words-good-spec =
     tie.close
     (tie.spec
-    add-all-below
-    marks-start-requires
-    all-below-requires
+    (λ c. search needs)
+    (λ c κs. search needs)
+    (λ c κs. search needs)
     returns
-    add-all-below-2
-    marks-start-requires-2
-    all-below-requires-2
+    (λ c. search needs)
+    (λ c κs. search needs)
+    (λ c κs. search needs)
     returns-2
-    slots-good-requires
+    (λ c κs. search needs)
     returns-3)

@@ -5,15 +5,9 @@ use borrow.Author.Needs.{needs}
 use Rattle.carry.proofs.lent_refusal.Statement.{statement}
 use Rattle.carry.proofs.lent_refusal.Tie as tie
 
-ended-refusal-requires : tie.Need-ended-refusal-requires
-ended-refusal-requires c κs = search needs
-
 returns : tie.Need-returns
 unfolding lentRefusal
 returns c = first-refuses _ (c .before .before .ended-refusal .ensures) (c .if1 .taken)
-
-fresh-refusal-requires : tie.Need-fresh-refusal-requires
-fresh-refusal-requires c κs = search needs
 
 returns-2 : tie.Need-returns-2
 unfolding lentRefusal
@@ -21,4 +15,4 @@ returns-2 c = let p = c .before in first-passes (p .before .before .ended-refusa
 
 pub lent-refusal-spec : {M : Type 1} → statement M
 lent-refusal-spec =
-    tie.close (tie.spec ended-refusal-requires returns fresh-refusal-requires returns-2)
+    tie.close (tie.spec (λ c κs. search needs) returns (λ c κs. search needs) returns-2)

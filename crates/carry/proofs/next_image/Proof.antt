@@ -33,21 +33,12 @@ chosen c = record {
   counted = omega (arith, c .count3 .ensures .0);
 }
 
-lent-refusal-requires : tie.Need-lent-refusal-requires
-lent-refusal-requires c κs = search needs
-
 returns : tie.Need-returns
 unfolding nextRefusal
 returns c =
     let a = start-of (c .before .before) .args in
     next-refused (a .image .now) (a .table .now) (a .area .now) (a .fresh .now) (a .out .now) _
     (first-refuses _ (c .before .before .lent-refusal .ensures) (c .if1 .taken)) (c .if1 .taken)
-
-count-requires : tie.Need-count-requires
-count-requires c κs = search needs
-
-count-requires-2 : tie.Need-count-requires-2
-count-requires-2 c κs = search needs
 
 members-requires : tie.Need-members-requires
 members-requires c κs =
@@ -56,14 +47,8 @@ members-requires c κs =
 count-requires-3 : tie.Need-count-requires-3
 count-requires-3 c κs = omega (arith, lent-shows _ _ _ _ (lent (c .before .before .before)) .0 .programs, c .before .before .count .ensures .0)
 
-add-programs : tie.Need-add-programs
-add-programs c = search needs
-
 size-refusal-requires : tie.Need-size-refusal-requires
 size-refusal-requires c κs = chosen-sources (chosen (c .before))
-
-same-length : tie.Need-same-length
-same-length c = search needs
 
 returns-2 : tie.Need-returns-2
 returns-2 c =
@@ -79,9 +64,6 @@ write-next-requires c κs =
     let k = chosen (s .before .before) in
     (chosen-sources k, chosen-fits k _ (s .size-refusal .ensures) (c .before .if2 .left))
 
-same-length-2 : tie.Need-same-length-2
-same-length-2 c = search needs
-
 returns-3 : tie.Need-returns-3
 returns-3 c =
     let e = c .before .before .before .before in
@@ -92,16 +74,16 @@ pub next-image-spec : {M : Type 1} → statement M
 next-image-spec =
     tie.close
     (tie.spec
-    lent-refusal-requires
+    (λ c κs. search needs)
     returns
-    count-requires
-    count-requires-2
+    (λ c κs. search needs)
+    (λ c κs. search needs)
     members-requires
     count-requires-3
-    add-programs
+    (λ c. search needs)
     size-refusal-requires
-    same-length
+    (λ c. search needs)
     returns-2
     write-next-requires
-    same-length-2
+    (λ c. search needs)
     returns-3)

@@ -5,23 +5,8 @@ use Rattle.carry.proofs.Sources.{all-source, from-length}
 use Rattle.carry.proofs.next_length.Statement.{statement}
 use Rattle.carry.proofs.next_length.Tie as tie
 
-taken-bytes-requires : tie.Need-taken-bytes-requires
-taken-bytes-requires c κs = search needs
-
-all-requires : tie.Need-all-requires
-all-requires c κs = search needs
-
 taken-bytes-requires-2 : tie.Need-taken-bytes-requires-2
 taken-bytes-requires-2 c κs = all-source (c .before .before .before .before .pre) (c .all .ensures)
-
-head-bytes-requires : tie.Need-head-bytes-requires
-head-bytes-requires c κs = search needs
-
-add-result : tie.Need-add-result
-add-result c = search needs
-
-add-result-2 : tie.Need-add-result-2
-add-result-2 c = search needs
 
 returns : tie.Need-returns
 returns c =
@@ -32,10 +17,10 @@ pub next-length-spec : {M : Type 1} → statement M
 next-length-spec =
     tie.close
     (tie.spec
-    taken-bytes-requires
-    all-requires
+    (λ c κs. search needs)
+    (λ c κs. search needs)
     taken-bytes-requires-2
-    head-bytes-requires
-    add-result
-    add-result-2
+    (λ c κs. search needs)
+    (λ c. search needs)
+    (λ c. search needs)
     returns)

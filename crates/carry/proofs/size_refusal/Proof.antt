@@ -1,8 +1,7 @@
 -- 11 first, then 10. Assumes nothing.
-use mathlib.Core.Path.{_≡_, refl}
+use mathlib.Core.Path.{refl}
 use mathlib.Core.List.{List}
 use Prim.Native.Nat.{ℕ, _≤_, _<_}
-use native.Mathlib.Omega.{arith}
 use lib.ListN.{length}
 use borrow.Author.Tests.{le-leb, lt-leb}
 use Rattle.image.proofs.Refusing.{fails, goes-on}
@@ -25,9 +24,6 @@ returns : tie.Need-returns
 unfolding sizeRefusal
 returns c = fails _ (lt-leb _ _ (c .if1 .taken))
 
-next-length-requires : tie.Need-next-length-requires
-next-length-requires c κs = search needs
-
 returns-2 : tie.Need-returns-2
 unfolding sizeRefusal
 returns-2 c =
@@ -41,4 +37,4 @@ returns-3 c =
     goes-on _ (le-leb _ _ (c .before .before .if1 .left)) (goes-on _ (le-leb _ _ l) refl)
 
 pub size-refusal-spec : {M : Type 1} → statement M
-size-refusal-spec = tie.close (tie.spec returns next-length-requires returns-2 returns-3)
+size-refusal-spec = tie.close (tie.spec returns (λ c κs. search needs) returns-2 returns-3)

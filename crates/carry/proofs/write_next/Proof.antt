@@ -73,19 +73,10 @@ all-ends-at c = c .before .before .before .before
 
 -- ---- the needs
 
-all-requires : tie.Need-all-requires
-all-requires c κs = search needs
-
-rule-requires : tie.Need-rule-requires
-rule-requires c κs = search needs
-
 put-header-requires : tie.Need-put-header-requires
 put-header-requires c κs =
     let p = start-of c .pre in
     (omega (arith, p .1, ap length (image-is c), length-image (c .rule .result) (old c ++ new c)), omega (arith, p .0 .few))
-
-head-bytes-requires : tie.Need-head-bytes-requires
-head-bytes-requires c κs = search needs
 
 put-ends-requires : tie.Need-put-ends-requires
 put-ends-requires c κs =
@@ -113,9 +104,6 @@ put-bodies-requires-2 c κs =
     let r = header-at k .before in
     (fresh-source r, second-fits (old r) (new r) (bytes-room (headed k) (ended d)) (b .put-bodies .ensures))
 
-same-length : tie.Need-same-length
-same-length c = search needs
-
 returns : tie.Need-returns
 returns c =
     let last = c .before .before in
@@ -130,13 +118,13 @@ pub write-next-spec : {M : Type 1} → statement M
 write-next-spec =
     tie.close
     (tie.spec
-    all-requires
-    rule-requires
+    (λ c κs. search needs)
+    (λ c κs. search needs)
     put-header-requires
-    head-bytes-requires
+    (λ c κs. search needs)
     put-ends-requires
     put-ends-requires-2
     put-bodies-requires
     put-bodies-requires-2
-    same-length
+    (λ c. search needs)
     returns)

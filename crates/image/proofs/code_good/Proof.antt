@@ -36,25 +36,10 @@ part-of-requires c κs = (lies _ (c .before .before .before .pre .0) _ (omega ar
 loop-holds : tie.Need-loop-holds Inv-loop μ-loop Inv-programs μ-programs
 loop-holds c = (search needs, c .before .before .programs .inv .1, every-none _)
 
-place-good-requires : tie.Need-place-good-requires Inv-loop μ-loop Inv-programs μ-programs
-place-good-requires c κs = search needs
-
-add-i : tie.Need-add-i Inv-loop μ-loop Inv-programs μ-programs
-add-i c = search needs
-
-loop-less : tie.Need-loop-less Inv-loop μ-loop Inv-programs μ-programs
-loop-less c = search needs
-
 loop-again : tie.Need-loop-again Inv-loop μ-loop Inv-programs μ-programs
 loop-again c =
     let inv = c .before .before .before .loop .inv in
     (search needs, inv .1, every-more _ _ (inv .2) (sym (c .before .place-good .ensures) ∙ not-false _ (c .if1 .left)))
-
-add-p : tie.Need-add-p Inv-loop μ-loop Inv-programs μ-programs
-add-p c = search needs
-
-programs-less : tie.Need-programs-less Inv-loop μ-loop Inv-programs μ-programs
-programs-less c = search needs
 
 programs-again : tie.Need-programs-again Inv-loop μ-loop Inv-programs μ-programs
 programs-again c =
@@ -94,12 +79,12 @@ code-good-spec =
     programs-holds
     part-of-requires
     loop-holds
-    place-good-requires
-    add-i
-    loop-less
+    (λ c κs. search needs)
+    (λ c. search needs)
+    (λ c. search needs)
     loop-again
-    add-p
-    programs-less
+    (λ c. search needs)
+    (λ c. search needs)
     programs-again
     returns
     returns-2)

@@ -5,14 +5,8 @@ use Rattle.image.specs.declared.Image.{Image}
 use Rattle.image.proofs.count.Statement.{statement}
 use Rattle.image.proofs.count.Tie as tie
 
-header-requires : tie.Need-header-requires
-header-requires c κs = search needs
-
-cast-result : tie.Need-cast-result
-cast-result c = search needs
-
 returns : tie.Need-returns
 returns c = (ap (λ (h : Image). h .count) (c .before .header .ensures), search needs)
 
 pub count-spec : {M : Type 1} → statement M
-count-spec = tie.close (tie.spec header-requires cast-result returns)
+count-spec = tie.close (tie.spec (λ c κs. search needs) (λ c. search needs) returns)

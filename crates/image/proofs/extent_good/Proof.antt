@@ -8,24 +8,12 @@ use Rattle.image.specs.Image.{offsetOf, extentGood}
 use Rattle.image.proofs.extent_good.Statement.{statement}
 use Rattle.image.proofs.extent_good.Tie as tie
 
-offset-requires : tie.Need-offset-requires
-offset-requires c κs = search needs
-
-add-offset : tie.Need-add-offset
-add-offset c = search needs
-
-offset-requires-2 : tie.Need-offset-requires-2
-offset-requires-2 c κs = search needs
-
 returns : tie.Need-returns
 unfolding extentGood
 returns c =
     let a = c .before .before .before .before .args in
     let h : offsetOf (now (a .bytes)) (a .p + 1) < offsetOf (now (a .bytes)) (a .p) = omega arith in
     simp (lt-leb _ _ h)
-
-all-requires : tie.Need-all-requires
-all-requires c κs = search needs
 
 returns-2 : tie.Need-returns-2
 unfolding extentGood
@@ -37,4 +25,4 @@ returns-2 c =
 pub extent-good-spec : {M : Type 1} → statement M
 extent-good-spec =
     tie.close
-    (tie.spec offset-requires add-offset offset-requires-2 returns all-requires returns-2)
+    (tie.spec (λ c κs. search needs) (λ c. search needs) (λ c κs. search needs) returns (λ c κs. search needs) returns-2)

@@ -21,9 +21,6 @@ abbrev μ-loop : tie.MeasureT-loop
 loop-holds : tie.Need-loop-holds Inv-loop μ-loop
 loop-holds c = (search needs, every-none _)
 
-extent-good-requires : tie.Need-extent-good-requires Inv-loop μ-loop
-extent-good-requires c κs = search needs
-
 returns : tie.Need-returns Inv-loop μ-loop
 unfolding extentsGood
 returns c =
@@ -32,12 +29,6 @@ returns c =
     sym
     (every-false (countOf bytes) (λ q. extentGood bytes q) (here .loop .p) (omega arith)
     (sym (c .before .extent-good .ensures) ∙ not-true _ (c .if1 .taken)))
-
-add-p : tie.Need-add-p Inv-loop μ-loop
-add-p c = search needs
-
-loop-less : tie.Need-loop-less Inv-loop μ-loop
-loop-less c = search needs
 
 loop-again : tie.Need-loop-again Inv-loop μ-loop
 loop-again c = (
@@ -58,9 +49,9 @@ extents-good-spec =
     Inv-loop
     μ-loop
     loop-holds
-    extent-good-requires
+    (λ c κs. search needs)
     returns
-    add-p
-    loop-less
+    (λ c. search needs)
+    (λ c. search needs)
     loop-again
     returns-2)

@@ -1,5 +1,5 @@
 -- `fresh_refusal` meets its contract: no refusal stays none, and one of four has room for what is added. Assumes nothing.
-use mathlib.Core.Path.{_≡_, refl, sym, ap, _∙_}
+use mathlib.Core.Path.{refl, sym, ap, _∙_}
 use Prim.Native.Nat.{ℕ, _+_}
 use native.Mathlib.Omega.{arith}
 use borrow.Author.Needs.{needs}
@@ -11,9 +11,6 @@ use Rattle.image.proofs.Refusing.{fails, goes-on, number-of}
 use Rattle.image.proofs.Laws.{refusal-few}
 use Rattle.image.proofs.fresh_refusal.Statement.{statement}
 use Rattle.image.proofs.fresh_refusal.Tie as tie
-
-image-refusal-requires : tie.Need-image-refusal-requires
-image-refusal-requires c κs = search needs
 
 returns : tie.Need-returns
 unfolding freshRefusalOf
@@ -32,4 +29,4 @@ returns-2 c =
     ap (λ (n : ℕ). refusing (20 + n)) e ∙ fails _ (ne-eqb _ _ (λ z. c .before .if1 .left (e ∙ z)))
 
 pub fresh-refusal-spec : {M : Type 1} → statement M
-fresh-refusal-spec = tie.close (tie.spec image-refusal-requires returns add-t4 returns-2)
+fresh-refusal-spec = tie.close (tie.spec (λ c κs. search needs) returns add-t4 returns-2)

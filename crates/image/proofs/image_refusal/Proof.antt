@@ -38,25 +38,13 @@ count-is c = ap (λ (h : Image). h .count) (c .before .before .header .ensures)
 offsets-are-good : (c : tie.Else3) → offsetsGood (image (sized (headed c))) ≡ true
 offsets-are-good c = sym (c .before .offsets-good .ensures) ∙ not-false _ (c .if3 .left)
 
-size-good-requires : tie.Need-size-good-requires
-size-good-requires c κs = search needs
-
 returns : tie.Need-returns
 unfolding refusalOf
 returns c = refuses _ (c .before .size-good .ensures) (c .if1 .taken)
 
-header-requires : tie.Need-header-requires
-header-requires c κs = search needs
-
-valid-requires : tie.Need-valid-requires
-valid-requires c κs = search needs
-
 returns-2 : tie.Need-returns-2
 unfolding refusalOf
 returns-2 c = goes-on _ (size-is-good (c .before .before .before)) (refuses _ (valid-is (c .before)) (c .if2 .taken))
-
-cast-n : tie.Need-cast-n
-cast-n c = search needs
 
 offsets-good-requires : tie.Need-offsets-good-requires
 offsets-good-requires c κs = (count-is (c .before), omega arith)
@@ -91,12 +79,12 @@ pub image-refusal-spec : {M : Type 1} → statement M
 image-refusal-spec =
     tie.close
     (tie.spec
-    size-good-requires
+    (λ c κs. search needs)
     returns
-    header-requires
-    valid-requires
+    (λ c κs. search needs)
+    (λ c κs. search needs)
     returns-2
-    cast-n
+    (λ c. search needs)
     offsets-good-requires
     returns-3
     code-good-requires

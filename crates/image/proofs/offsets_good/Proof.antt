@@ -22,18 +22,12 @@ long c = let h : headBytes (countOf (image c)) ≤ length (image c) = omega arit
 begins : (c : tie.Else2) → firstGood (image (c .before .before)) ≡ true
 begins c = let h : offsetOf (image (c .before .before)) 0 ≡ headBytes (countOf (image (c .before .before))) = omega arith in eq-eqb _ _ h
 
-head-bytes-requires : tie.Need-head-bytes-requires
-head-bytes-requires c κs = search needs
-
 returns : tie.Need-returns
 unfolding offsetsGood
 returns c =
     let bytes = now (c .before .before .before .args .bytes) in
     let short : length bytes < headBytes (countOf bytes) = omega arith in
     simp (lt-leb _ _ short)
-
-offset-requires : tie.Need-offset-requires
-offset-requires c κs = search needs
 
 returns-2 : tie.Need-returns-2
 unfolding offsetsGood
@@ -42,17 +36,11 @@ returns-2 c =
     let first : offsetOf bytes 0 ≡ headBytes (countOf bytes) → ⊥ = λ e. c .if2 .taken (omega arith) in
     simp (long (c .before .before), ne-eqb _ _ first)
 
-extents-good-requires : tie.Need-extents-good-requires
-extents-good-requires c κs = search needs
-
 returns-3 : tie.Need-returns-3
 unfolding offsetsGood
 returns-3 c =
     let passed = c .before .before in
     simp (long (passed .before .before), begins passed, sym (c .before .extents-good .ensures) ∙ not-true _ (c .if3 .taken))
-
-offset-requires-2 : tie.Need-offset-requires-2
-offset-requires-2 c κs = search needs
 
 returns-4 : tie.Need-returns-4
 unfolding offsetsGood
@@ -70,11 +58,11 @@ pub offsets-good-spec : {M : Type 1} → statement M
 offsets-good-spec =
     tie.close
     (tie.spec
-    head-bytes-requires
+    (λ c κs. search needs)
     returns
-    offset-requires
+    (λ c κs. search needs)
     returns-2
-    extents-good-requires
+    (λ c κs. search needs)
     returns-3
-    offset-requires-2
+    (λ c κs. search needs)
     returns-4)

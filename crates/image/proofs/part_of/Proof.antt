@@ -6,15 +6,6 @@ use Rattle.image.specs.Image.{partOf}
 use Rattle.image.proofs.part_of.Statement.{statement}
 use Rattle.image.proofs.part_of.Tie as tie
 
-offset-requires : tie.Need-offset-requires
-offset-requires c κs = search needs
-
-add-offset : tie.Need-add-offset
-add-offset c = search needs
-
-offset-requires-2 : tie.Need-offset-requires-2
-offset-requires-2 c κs = search needs
-
 sub-result : tie.Need-sub-result
 sub-result c = omega (arith, c .before .before .before .pre .0 .rise)
 
@@ -35,9 +26,9 @@ pub part-of-spec : {M : Type 1} → statement M
 part-of-spec =
     tie.close
     (tie.spec
-    offset-requires
-    add-offset
-    offset-requires-2
+    (λ c κs. search needs)
+    (λ c. search needs)
+    (λ c κs. search needs)
     sub-result
     part-result-start
     part-result-end

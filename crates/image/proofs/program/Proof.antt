@@ -1,6 +1,6 @@
 -- `program` meets its contract: where nothing is refused the offsets are good, so `part_of` gives that part; otherwise nothing is handed back.
 -- Assumes nothing.
-use mathlib.Core.Path.{_≡_, sym, ap, _∙_}
+use mathlib.Core.Path.{_≡_, sym, _∙_}
 use native.Mathlib.Nat.{zero-add}
 use native.Mathlib.Omega.{arith}
 use borrow.Author.Needs.{needs}
@@ -17,17 +17,11 @@ start c = c .before .before
 found : (c : tie.Then1) → let a = start (c .before .before) .args in programRefusalOf (now (a .image)) (a .number) .number ≡ 0
 found c = number-of (sym (c .before .before .program-refusal .ensures .answer)) ∙ c .if1 .taken
 
-program-refusal-requires : tie.Need-program-refusal-requires
-program-refusal-requires c κs = search needs
-
 part-of-requires : tie.Need-part-of-requires
 part-of-requires c κs =
     let a = start (c .before .before) .args in
     let asked = handed-back (now (a .image)) (a .number) (found c) in
     (lies _ (accepted _ (asked .0) .offsets) _ (omega (arith, asked .1)), omega (arith, handed-low (now (a .image)) (a .number) (found c)))
-
-slice-aggregate-result : tie.Need-slice-aggregate-result
-slice-aggregate-result c = search needs
 
 returns : tie.Need-returns
 returns c =
@@ -46,4 +40,4 @@ returns-2 c =
 pub program-spec : {M : Type 1} → statement M
 program-spec =
     tie.close
-    (tie.spec program-refusal-requires part-of-requires slice-aggregate-result returns returns-2)
+    (tie.spec (λ c κs. search needs) part-of-requires (λ c. search needs) returns returns-2)

@@ -19,15 +19,9 @@ start c = c .before .before .before .before
 passed : (c : tie.Else1) {x rest : Refusal} → x ≡ rest → x ≡ after (refusalOf (now (start c .args .image))) rest
 passed c = first-passes (c .before .before .image-refusal .ensures) (c .if1 .left)
 
-image-refusal-requires : tie.Need-image-refusal-requires
-image-refusal-requires c κs = search needs
-
 returns : tie.Need-returns
 unfolding programRefusalOf
 returns c = record { answer = first-refuses _ (c .before .before .image-refusal .ensures) (c .if1 .taken) }
-
-count-requires : tie.Need-count-requires
-count-requires c κs = search needs
 
 returns-2 : tie.Need-returns-2
 unfolding programRefusalOf
@@ -45,4 +39,4 @@ returns-3 c =
 
 pub program-refusal-spec : {M : Type 1} → statement M
 program-refusal-spec =
-    tie.close (tie.spec image-refusal-requires returns count-requires returns-2 returns-3)
+    tie.close (tie.spec (λ c κs. search needs) returns (λ c κs. search needs) returns-2 returns-3)

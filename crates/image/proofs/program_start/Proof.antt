@@ -15,9 +15,6 @@ start c = c .before .before
 found : (c : tie.Then1) → let a = start (c .before .before) .args in programRefusalOf (now (a .image)) (a .number) .number ≡ 0
 found c = number-of (sym (c .before .before .program-refusal .ensures .answer)) ∙ c .if1 .taken
 
-program-refusal-requires : tie.Need-program-refusal-requires
-program-refusal-requires c κs = search needs
-
 offset-requires : tie.Need-offset-requires
 offset-requires c κs = let a = start (c .before .before) .args in omega (arith, handed-low (now (a .image)) (a .number) (found c))
 
@@ -34,4 +31,4 @@ returns-2 c =
 
 pub program-start-spec : {M : Type 1} → statement M
 program-start-spec =
-    tie.close (tie.spec program-refusal-requires offset-requires returns returns-2)
+    tie.close (tie.spec (λ c κs. search needs) offset-requires returns returns-2)

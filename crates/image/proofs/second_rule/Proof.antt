@@ -3,11 +3,8 @@ use borrow.Author.Needs.{needs}
 use Rattle.image.proofs.second_rule.Statement.{statement}
 use Rattle.image.proofs.second_rule.Tie as tie
 
-rule-requires : tie.Need-rule-requires
-rule-requires c κs = search needs
-
 returns : tie.Need-returns
 returns c = rw (← c .rule .ensures)
 
 pub second-rule-spec : {M : Type 1} → statement M
-second-rule-spec = tie.close (tie.spec rule-requires returns)
+second-rule-spec = tie.close (tie.spec (λ c κs. search needs) returns)

@@ -1,5 +1,4 @@
 -- `size_good` meets its contract: the two ends of the range, one after the other. Assumes nothing.
-use mathlib.Core.Path.{_≡_}
 use borrow.Author.Tests.{lt-leb, le-leb}
 use Rattle.image.specs.Image.{sizeGood}
 use Rattle.image.proofs.size_good.Statement.{statement}

@@ -8,23 +8,11 @@ use borrow.Author.Needs.{needs}
 use Rattle.listing.proofs.add_reader.Statement.{statement}
 use Rattle.listing.proofs.add_reader.Tie as tie
 
-is-committed-requires : tie.Need-is-committed-requires
-is-committed-requires c κs = search needs
-
 returns : tie.Need-returns
 returns c =
     let s = c .before .before .before in
     let a = s .args in
     sym (no-reads (a .cells) (a .number) (a .area .now) (s .pre .0) (a .readers .now) (2 ^ a .bit) (sym (c .before .is-committed .ensures) ∙ not-true _ (c .if1 .taken)))
-
-span-of-requires : tie.Need-span-of-requires
-span-of-requires c κs = search needs
-
-cast-set-bits : tie.Need-cast-set-bits
-cast-set-bits c = search needs
-
-shl-set-bits : tie.Need-shl-set-bits
-shl-set-bits c = search needs
 
 set-bits-requires : tie.Need-set-bits-requires
 set-bits-requires c κs =
@@ -45,10 +33,10 @@ pub add-reader-spec : {M : Type 1} → statement M
 add-reader-spec =
     tie.close
     (tie.spec
-    is-committed-requires
+    (λ c κs. search needs)
     returns
-    span-of-requires
-    cast-set-bits
-    shl-set-bits
+    (λ c κs. search needs)
+    (λ c. search needs)
+    (λ c. search needs)
     set-bits-requires
     returns-2)

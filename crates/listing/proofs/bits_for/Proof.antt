@@ -28,26 +28,11 @@ loop-holds c =
     let a = c .args in
     (search needs, ap (bitsFor (a .readers .now) 0) (words-start (a .area .now) (a .at) (a .count)))
 
-add-cell : tie.Need-add-cell Inv-loop μ-loop
-add-cell c = search needs
-
-mul-cell : tie.Need-mul-cell Inv-loop μ-loop
-mul-cell c = search needs
-
-shared-slice-read-cell : tie.Need-shared-slice-read-cell Inv-loop μ-loop
-shared-slice-read-cell c = search needs
-
 cast-cell : tie.Need-cast-cell Inv-loop μ-loop
 cast-cell c = omega (arith, cell-few (c .before))
 
 element-copy-out-found : tie.Need-element-copy-out-found Inv-loop μ-loop
 element-copy-out-found c = cell-few (c .before)
-
-add-k : tie.Need-add-k Inv-loop μ-loop
-add-k c = search needs
-
-loop-less : tie.Need-loop-less Inv-loop μ-loop
-loop-less c = search needs
 
 loop-again : tie.Need-loop-again Inv-loop μ-loop
 loop-again c =
@@ -70,12 +55,12 @@ bits-for-spec =
     Inv-loop
     μ-loop
     loop-holds
-    add-cell
-    mul-cell
-    shared-slice-read-cell
+    (λ c. search needs)
+    (λ c. search needs)
+    (λ c. search needs)
     cast-cell
     element-copy-out-found
-    add-k
-    loop-less
+    (λ c. search needs)
+    (λ c. search needs)
     loop-again
     returns)

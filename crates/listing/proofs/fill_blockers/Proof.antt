@@ -19,9 +19,6 @@ loop-holds c =
     let s = c .before in
     (search needs, rw (s .pre .2) (blockers-start (s .args .cells) (s .args .set) (s .args .area .now) (s .pre .1 .bounded)))
 
-octet-end-requires : tie.Need-octet-end-requires Inv-loop μ-loop
-octet-end-requires c κs = search needs
-
 add-octet-requires : tie.Need-add-octet-requires Inv-loop μ-loop
 add-octet-requires c κs =
     let s = c .before .before .before .before .before in
@@ -47,7 +44,7 @@ fill-blockers-spec =
     Inv-loop
     μ-loop
     loop-holds
-    octet-end-requires
+    (λ c κs. search needs)
     add-octet-requires
     loop-less
     loop-again

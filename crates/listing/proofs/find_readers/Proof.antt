@@ -20,20 +20,11 @@ loop-holds c =
     let a = s .args in
     (search needs, omega (arith, s .pre .1 .not-empty), rw (s .pre .2) (readers-start (committedReads (a .cells) (a .area .now)) (a .start)))
 
-sub-add-reader : tie.Need-sub-add-reader Inv-loop μ-loop
-sub-add-reader c = search needs
-
 add-reader-requires : tie.Need-add-reader-requires Inv-loop μ-loop
 add-reader-requires c κs =
     let s = c .before .before .before .before in
     let l = c .before .before .loop in
     (s .pre .0 .slotted (l .number) (omega arith), omega (arith, s .pre .1 .small), l .inv .2 .long)
-
-add-number : tie.Need-add-number Inv-loop μ-loop
-add-number c = search needs
-
-loop-less : tie.Need-loop-less Inv-loop μ-loop
-loop-less c = search needs
 
 loop-again : tie.Need-loop-again Inv-loop μ-loop
 loop-again c =
@@ -54,9 +45,9 @@ find-readers-spec =
     Inv-loop
     μ-loop
     loop-holds
-    sub-add-reader
+    (λ c. search needs)
     add-reader-requires
-    add-number
-    loop-less
+    (λ c. search needs)
+    (λ c. search needs)
     loop-again
     returns)

@@ -7,15 +7,9 @@ use borrow.Author.Needs.{needs}
 use Rattle.listing.proofs.is_committed.Statement.{statement}
 use Rattle.listing.proofs.is_committed.Tie as tie
 
-state-requires : tie.Need-state-requires
-state-requires c κs = search needs
-
-is-in-requires : tie.Need-is-in-requires
-is-in-requires c κs = search needs
-
 returns : tie.Need-returns
 unfolding inGroup
 returns c = c .is-in .ensures ∙ ap (isIn Committed) (c .before .state .ensures)
 
 pub is-committed-spec : {M : Type 1} → statement M
-is-committed-spec = tie.close (tie.spec state-requires is-in-requires returns)
+is-committed-spec = tie.close (tie.spec (λ c κs. search needs) (λ c κs. search needs) returns)

@@ -10,9 +10,6 @@ pick-all-requires c κs =
     let s = c .before .before .before in
     (s .pre .slots .few, all-bounded (s .args .cells) (s .args .n) (s .args .all) (s .args .area .now) (s .pre .slots .few) (s .pre .committed), search needs)
 
-count-requires : tie.Need-count-requires
-count-requires c κs = search needs
-
 returns : tie.Need-returns
 returns c =
     let k = c .before in
@@ -21,12 +18,6 @@ returns c =
     let a = s .args in
     no-order (a .cells) (a .n) (a .area .now) (a .blockers .now) (a .all) (s .pre .slots .few) (s .pre .committed) (s .pre .blocked)
     (p .result) (k .count .result) (a .list .now) (p .ensures .as-many) (k .count .ensures .0) (c .if1 .taken)
-
-copy-order-requires : tie.Need-copy-order-requires
-copy-order-requires c κs = search needs
-
-same-length : tie.Need-same-length
-same-length c = search needs
 
 returns-2 : tie.Need-returns-2
 returns-2 c =
@@ -44,8 +35,8 @@ list-all-spec =
     tie.close
     (tie.spec
     pick-all-requires
-    count-requires
+    (λ c κs. search needs)
     returns
-    copy-order-requires
-    same-length
+    (λ c κs. search needs)
+    (λ c. search needs)
     returns-2)

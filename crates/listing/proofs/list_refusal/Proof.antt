@@ -14,15 +14,9 @@ use Rattle.listing.proofs.list_refusal.Tie as tie
 abbrev start : tie.Else1 → tie.Start
 start c = c .before .before .before .before .before .before .before
 
-ended-refusal-requires : tie.Need-ended-refusal-requires
-ended-refusal-requires c κs = search needs
-
 returns : tie.Need-returns
 unfolding listRefusal
 returns c = first-refuses _ (c .before .before .ended-refusal .ensures) (c .if1 .taken)
-
-count-requires : tie.Need-count-requires
-count-requires c κs = search needs
 
 returns-2 : tie.Need-returns-2
 unfolding listRefusal
@@ -42,4 +36,4 @@ returns-3 c =
 
 pub list-refusal-spec : {M : Type 1} → statement M
 list-refusal-spec =
-    tie.close (tie.spec ended-refusal-requires returns count-requires returns-2 returns-3)
+    tie.close (tie.spec (λ c κs. search needs) returns (λ c κs. search needs) returns-2 returns-3)

@@ -16,27 +16,15 @@ passed : (c : tie.Else1)
     → (let a = start-of (c .before .before) .args in listRefusal (a .image .now) (a .table .now) (a .area .now) (a .list .now) .number ≡ 0)
 passed c = number-of (sym (c .before .before .list-refusal .ensures)) ∙ c .if1 .left
 
-list-refusal-requires : tie.Need-list-refusal-requires
-list-refusal-requires c κs = search needs
-
-same-length : tie.Need-same-length
-same-length c = search needs
-
 returns : tie.Need-returns
 returns c =
     let a = start-of (c .before .before) .args in
     order-refused (a .image .now) (a .table .now) (a .area .now) (a .list .now) _ (c .before .before .list-refusal .ensures) (c .if1 .taken)
 
-count-requires : tie.Need-count-requires
-count-requires c κs = search needs
-
 order-checked-requires : tie.Need-order-checked-requires
 order-checked-requires c κs =
     let a = start-of (c .before .before .before .before) .args in
     list-ready (a .image .now) (a .table .now) (a .area .now) (a .list .now) (passed (c .before .before)) _ (c .before .count .ensures .0)
-
-same-length-2 : tie.Need-same-length-2
-same-length-2 c = search needs
 
 returns-2 : tie.Need-returns-2
 returns-2 c =
@@ -49,10 +37,10 @@ pub order-spec : {M : Type 1} → statement M
 order-spec =
     tie.close
     (tie.spec
-    list-refusal-requires
-    same-length
+    (λ c κs. search needs)
+    (λ c. search needs)
     returns
-    count-requires
+    (λ c κs. search needs)
     order-checked-requires
-    same-length-2
+    (λ c. search needs)
     returns-2)

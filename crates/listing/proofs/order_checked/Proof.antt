@@ -4,9 +4,6 @@ use Rattle.listing.proofs.Readers.{committed-in}
 use Rattle.listing.proofs.order_checked.Statement.{statement}
 use Rattle.listing.proofs.order_checked.Tie as tie
 
-members-requires : tie.Need-members-requires
-members-requires c κs = search needs
-
 fill-blockers-requires : tie.Need-fill-blockers-requires
 fill-blockers-requires c κs =
     let m = c .before .members in
@@ -20,13 +17,7 @@ list-all-requires c κs =
     let m = c .before .before .before .before .members in
     record { slots = s .pre .1; committed = record { all-are = m .ensures }; blocked = c .before .before .fill-blockers .ensures; room = s .pre .2 }
 
-same-length : tie.Need-same-length
-same-length c = search needs
-
-returns : tie.Need-returns
-returns c = search needs
-
 pub order-checked-spec : {M : Type 1} → statement M
 order-checked-spec =
     tie.close
-    (tie.spec members-requires fill-blockers-requires list-all-requires same-length returns)
+    (tie.spec (λ c κs. search needs) fill-blockers-requires list-all-requires (λ c. search needs) (λ c. search needs))

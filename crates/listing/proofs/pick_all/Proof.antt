@@ -31,27 +31,15 @@ returns c =
     (c .before .next-free .result) (c .before .next-free .ensures) (c .if1 .taken) in
     record { front = t .0; as-many = t .1; at-most = l .inv .within; room = l .inv .long }
 
-sub-i : tie.Need-sub-i Inv-loop μ-loop
-sub-i c = search needs
-
 cast-order : tie.Need-cast-order Inv-loop μ-loop
 cast-order c =
     let h : c .before .next-free .result ≤ wordBits = rw (c .before .next-free .ensures) (first-le _ _) in
     omega arith
 
-element-write-order : tie.Need-element-write-order Inv-loop μ-loop
-element-write-order c = search needs
-
 shl-left : tie.Need-shl-left Inv-loop μ-loop
 shl-left c =
     let h : c .before .next-free .result ≤ wordBits = rw (c .before .next-free .ensures) (first-le _ _) in
     omega arith
-
-add-taken : tie.Need-add-taken Inv-loop μ-loop
-add-taken c = search needs
-
-loop-less : tie.Need-loop-less Inv-loop μ-loop
-loop-less c = search needs
 
 loop-again : tie.Need-loop-again Inv-loop μ-loop
 loop-again c =
@@ -80,11 +68,11 @@ pick-all-spec =
     loop-holds
     next-free-requires
     returns
-    sub-i
+    (λ c. search needs)
     cast-order
-    element-write-order
+    (λ c. search needs)
     shl-left
-    add-taken
-    loop-less
+    (λ c. search needs)
+    (λ c. search needs)
     loop-again
     returns-2)

@@ -6,9 +6,6 @@ use borrow.Author.Needs.{needs}
 use Rattle.listing.proofs.readers_of.Statement.{statement}
 use Rattle.listing.proofs.readers_of.Tie as tie
 
-span-of-requires : tie.Need-span-of-requires
-span-of-requires c κs = search needs
-
 bits-for-requires : tie.Need-bits-for-requires
 bits-for-requires c κs = let s = c .before .before in list-at (s .args .cells) (s .args .i) (s .args .area .now) (s .pre) Stores _ (c .span-of .ensures)
 
@@ -17,4 +14,4 @@ unfolding listOf
 returns c = rw (c .before .span-of .ensures) at (c .bits-for .ensures)
 
 pub readers-of-spec : {M : Type 1} → statement M
-readers-of-spec = tie.close (tie.spec span-of-requires bits-for-requires returns)
+readers-of-spec = tie.close (tie.spec (λ c κs. search needs) bits-for-requires returns)

@@ -30,15 +30,6 @@ loop-holds c =
     let a = c .args in
     (search needs, c .pre .1, ap (λ (x : List ℕ). withBits (a .bit) x (a .readers .now)) (words-start (a .area .now) (a .at) (a .count)))
 
-add-cell : tie.Need-add-cell Inv-loop μ-loop
-add-cell c = search needs
-
-mul-cell : tie.Need-mul-cell Inv-loop μ-loop
-mul-cell c = search needs
-
-shared-slice-read-cell : tie.Need-shared-slice-read-cell Inv-loop μ-loop
-shared-slice-read-cell c = search needs
-
 cast-cell : tie.Need-cast-cell Inv-loop μ-loop
 cast-cell c = omega (arith, cell-few (c .before))
 
@@ -47,12 +38,6 @@ element-copy-out-readers c = cell-few (c .before)
 
 element-write-readers : tie.Need-element-write-readers Inv-loop μ-loop
 element-write-readers c = cell-few (c .before .before)
-
-add-k : tie.Need-add-k Inv-loop μ-loop
-add-k c = search needs
-
-loop-less : tie.Need-loop-less Inv-loop μ-loop
-loop-less c = search needs
 
 loop-again : tie.Need-loop-again Inv-loop μ-loop
 loop-again c =
@@ -78,13 +63,13 @@ set-bits-spec =
     Inv-loop
     μ-loop
     loop-holds
-    add-cell
-    mul-cell
-    shared-slice-read-cell
+    (λ c. search needs)
+    (λ c. search needs)
+    (λ c. search needs)
     cast-cell
     element-copy-out-readers
     element-write-readers
-    add-k
-    loop-less
+    (λ c. search needs)
+    (λ c. search needs)
     loop-again
     returns)

@@ -4,19 +4,10 @@ use Rattle.machine.proofs.Ends.{log-kept, log-dropped}
 use Rattle.machine.proofs.drop_log.Statement.{statement}
 use Rattle.machine.proofs.drop_log.Tie as tie
 
-keeps-requires : tie.Need-keeps-requires
-keeps-requires c κs = search needs
-
 returns : tie.Need-returns
 returns c =
     let s = c .before .before .before in
     log-kept _ _ (s .args .run) _ (s .pre .1) (c .before .keeps .ensures) (c .if1 .taken)
-
-clear-requires : tie.Need-clear-requires
-clear-requires c κs = search needs
-
-same-length : tie.Need-same-length
-same-length c = search needs
 
 returns-2 : tie.Need-returns-2
 returns-2 c =
@@ -26,4 +17,4 @@ returns-2 c =
     log-dropped _ _ _ (s .args .run) _ (d .clear .ensures) (s .pre .0) (k .before .keeps .ensures) (k .if1 .left)
 
 pub drop-log-spec : {M : Type 1} → statement M
-drop-log-spec = tie.close (tie.spec keeps-requires returns clear-requires same-length returns-2)
+drop-log-spec = tie.close (tie.spec (λ c κs. search needs) returns (λ c κs. search needs) (λ c. search needs) returns-2)

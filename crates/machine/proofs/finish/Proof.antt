@@ -4,24 +4,6 @@ use Rattle.machine.proofs.Ends.{end-written}
 use Rattle.machine.proofs.finish.Statement.{statement}
 use Rattle.machine.proofs.finish.Tie as tie
 
-drop-log-requires : tie.Need-drop-log-requires
-drop-log-requires c κs = search needs
-
-state-of-requires : tie.Need-state-of-requires
-state-of-requires c κs = search needs
-
-slice-write-slot : tie.Need-slice-write-slot
-slice-write-slot c = search needs
-
-detail-of-requires : tie.Need-detail-of-requires
-detail-of-requires c κs = search needs
-
-slice-write-slot-2 : tie.Need-slice-write-slot-2
-slice-write-slot-2 c = search needs
-
-same-length : tie.Need-same-length
-same-length c = search needs
-
 returns : tie.Need-returns
 returns c =
     let d = c .before .before .before .before in
@@ -32,10 +14,10 @@ pub finish-spec : {M : Type 1} → statement M
 finish-spec =
     tie.close
     (tie.spec
-    drop-log-requires
-    state-of-requires
-    slice-write-slot
-    detail-of-requires
-    slice-write-slot-2
-    same-length
+    (λ c κs. search needs)
+    (λ c κs. search needs)
+    (λ c. search needs)
+    (λ c κs. search needs)
+    (λ c. search needs)
+    (λ c. search needs)
     returns)

@@ -12,9 +12,6 @@ use Rattle.machine.proofs.run_program.Tie as tie
 abbrev start-of : tie.After-clear → tie.Start
 start-of d = d .before .before .before .before .before
 
-clear-requires : tie.Need-clear-requires
-clear-requires c κs = search needs
-
 take-turns-requires : tie.Need-take-turns-requires
 take-turns-requires c κs =
     let d = c .before .before .before .before in
@@ -27,9 +24,6 @@ finish-requires c κs =
     let s = start-of (d .before .before .before .before .before) in
     let e = d .take-turns .ensures .1 in
     (outcome-words _ (s .args .table .now) (s .pre .0) e, e ∙ ap (layout waiting 0) (sym (outcome-log _ (s .args .table .now) (s .pre .0) e)))
-
-same-length : tie.Need-same-length
-same-length c = search needs
 
 returns : tie.Need-returns
 returns c =
@@ -44,4 +38,4 @@ returns c =
 
 pub run-program-spec : {M : Type 1} → statement M
 run-program-spec =
-    tie.close (tie.spec clear-requires take-turns-requires finish-requires same-length returns)
+    tie.close (tie.spec (λ c κs. search needs) take-turns-requires finish-requires (λ c. search needs) returns)

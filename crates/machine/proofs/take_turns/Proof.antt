@@ -24,37 +24,10 @@ start-of i = i .before .before .before .before .before .before .before
 abbrev turning : tie.After-step Inv-loop μ-loop → tie.Then1 Inv-loop μ-loop
 turning d = d .before .before .before .before .before .before .before .before
 
-new-requires : tie.Need-new-requires Inv-loop μ-loop
-new-requires c κs = search needs
-
 loop-holds : tie.Need-loop-holds Inv-loop μ-loop
 loop-holds c =
     let s = c .before .before .before .before in
     (refl, going-start (s .args .program .now) (s .args .table .now) (s .pre .0) _ _ _ (c .new .ensures) (s .pre .2) (s .pre .3))
-
-mul-at : tie.Need-mul-at Inv-loop μ-loop
-mul-at c = search needs
-
-shared-slice-read-step : tie.Need-shared-slice-read-step Inv-loop μ-loop
-shared-slice-read-step c = search needs
-
-add-step : tie.Need-add-step Inv-loop μ-loop
-add-step c = search needs
-
-shared-slice-read-step-2 : tie.Need-shared-slice-read-step-2 Inv-loop μ-loop
-shared-slice-read-step-2 c = search needs
-
-add-step-2 : tie.Need-add-step-2 Inv-loop μ-loop
-add-step-2 c = search needs
-
-shared-slice-read-step-3 : tie.Need-shared-slice-read-step-3 Inv-loop μ-loop
-shared-slice-read-step-3 c = search needs
-
-add-step-3 : tie.Need-add-step-3 Inv-loop μ-loop
-add-step-3 c = search needs
-
-shared-slice-read-step-4 : tie.Need-shared-slice-read-step-4 Inv-loop μ-loop
-shared-slice-read-step-4 c = search needs
 
 step-requires : tie.Need-step-requires Inv-loop μ-loop
 step-requires c κs =
@@ -64,9 +37,6 @@ step-requires c κs =
       going-ready (s .pre .0) (l .inv .1) (s .pre .1) (i .if1 .taken),
       instruction-named (s .args .program .now) (s .pre .0 .good) (l .machine .place) (i .if1 .taken),
     )
-
-enum-known-turn : tie.Need-enum-known-turn Inv-loop μ-loop
-enum-known-turn c = search needs
 
 same-length : tie.Need-same-length Inv-loop μ-loop
 same-length c =
@@ -80,9 +50,6 @@ returns c =
     let d = c .before .before .before .before .before .before in
     let i = turning d in
     going-stop (start-of i .pre .0) (i .before .before .loop .inv .1) _ _ _ (i .if1 .taken) (d .step .ensures) _ (c .before .turn .given .1)
-
-enum-told : tie.Need-enum-told Inv-loop μ-loop
-enum-told c = search needs
 
 loop-less : tie.Need-loop-less Inv-loop μ-loop
 loop-less c =
@@ -117,21 +84,21 @@ take-turns-spec =
     (tie.spec
     Inv-loop
     μ-loop
-    new-requires
+    (λ c κs. search needs)
     loop-holds
-    mul-at
-    shared-slice-read-step
-    add-step
-    shared-slice-read-step-2
-    add-step-2
-    shared-slice-read-step-3
-    add-step-3
-    shared-slice-read-step-4
+    (λ c. search needs)
+    (λ c. search needs)
+    (λ c. search needs)
+    (λ c. search needs)
+    (λ c. search needs)
+    (λ c. search needs)
+    (λ c. search needs)
+    (λ c. search needs)
     step-requires
-    enum-known-turn
+    (λ c. search needs)
     same-length
     returns
-    enum-told
+    (λ c. search needs)
     loop-less
     loop-again
     same-length-2

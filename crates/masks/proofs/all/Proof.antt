@@ -13,9 +13,6 @@ use Rattle.masks.proofs.all.Tie as tie
 returns : tie.Need-returns
 returns c = sym (ap (maskOf (λ k. true)) (c .if1 .taken) ∙ mask-all wordBits)
 
-shl-result : tie.Need-shl-result
-shl-result c = search needs
-
 low : (c : tie.Else1) → c .before .args .n < wordBits
 low c = omega arith
 
@@ -26,4 +23,4 @@ returns-2 : tie.Need-returns-2
 returns-2 c = let n = c .before .args .n in omega (arith, shifted n (low c), mask-all n)
 
 pub all-spec : {M : Type 1} → statement M
-all-spec = tie.close (tie.spec returns shl-result sub-result returns-2)
+all-spec = tie.close (tie.spec returns (λ c. search needs) sub-result returns-2)

@@ -4,12 +4,6 @@ use Rattle.slot.specs.States.{isIn, isCommitted, isCarried}
 use Rattle.slot.proofs.is_in.Statement.{statement}
 use Rattle.slot.proofs.is_in.Tie as tie
 
-enum-told : tie.Need-enum-told
-enum-told c = search needs
-
-enum-told-2 : tie.Need-enum-told-2
-enum-told-2 c = search needs
-
 returns : tie.Need-returns
 unfolding isIn isCommitted
 returns c = rw (c .enum-told .given .1)
@@ -19,4 +13,4 @@ unfolding isIn isCarried
 returns-2 c = rw (c .enum-told2 .given .1)
 
 pub is-in-spec : {M : Type 1} → statement M
-is-in-spec = tie.close (tie.spec enum-told enum-told-2 returns returns-2)
+is-in-spec = tie.close (tie.spec (λ c. search needs) (λ c. search needs) returns returns-2)

@@ -17,21 +17,6 @@ Inv-loop slot at n x i₀ i = (i ≤ n) × ((k : ℕ) → k < i → x ≡ getD (
 abbrev μ-loop : tie.MeasureT-loop
 μ-loop slot at n x i₀ i = n - i
 
-loop-holds : tie.Need-loop-holds Inv-loop μ-loop
-loop-holds c = search needs
-
-add-if1 : tie.Need-add-if1 Inv-loop μ-loop
-add-if1 c = search needs
-
-mul-if1 : tie.Need-mul-if1 Inv-loop μ-loop
-mul-if1 c = search needs
-
-shared-slice-read-if1 : tie.Need-shared-slice-read-if1 Inv-loop μ-loop
-shared-slice-read-if1 c = search needs
-
-add-result : tie.Need-add-result Inv-loop μ-loop
-add-result c = search needs
-
 returns : tie.Need-returns Inv-loop μ-loop
 returns c =
     let a = c .before .before .before .before .args in
@@ -41,12 +26,6 @@ returns c =
     sym
     (place-first (a .x) (words (a .at) (a .n) (a .slot .now)) (l .i) (omega (arith, long)) (l .inv .1)
     (c .if1 .taken ∙ sym (words-at (a .at) (a .n) (a .slot .now) (l .i) below)))
-
-add-i : tie.Need-add-i Inv-loop μ-loop
-add-i c = search needs
-
-loop-less : tie.Need-loop-less Inv-loop μ-loop
-loop-less c = search needs
 
 loop-again : tie.Need-loop-again Inv-loop μ-loop
 loop-again c =
@@ -68,13 +47,13 @@ place-in-spec =
     (tie.spec
     Inv-loop
     μ-loop
-    loop-holds
-    add-if1
-    mul-if1
-    shared-slice-read-if1
-    add-result
+    (λ c. search needs)
+    (λ c. search needs)
+    (λ c. search needs)
+    (λ c. search needs)
+    (λ c. search needs)
     returns
-    add-i
-    loop-less
+    (λ c. search needs)
+    (λ c. search needs)
     loop-again
     returns-2)

@@ -16,9 +16,6 @@ mark-is s = s .pre .1 .mark (s .args .c) (s .pre .2)
 mark-small : (s : tie.Start) → placeIn (s .args .c) (logOf (s .args .slot .now) .cells) ≤ listWords
 mark-small s = place-small (s .args .slot .now) (s .pre .0) (s .args .c)
 
-element-copy-out-result : tie.Need-element-copy-out-result
-element-copy-out-result c = search needs
-
 cast-result : tie.Need-cast-result
 cast-result c = omega (arith, mark-is (c .before), mark-small (c .before))
 
@@ -26,4 +23,4 @@ returns : tie.Need-returns
 returns c = (mark-is (c .before), omega (arith, mark-is (c .before), mark-small (c .before)))
 
 pub stored-place-spec : {M : Type 1} → statement M
-stored-place-spec = tie.close (tie.spec element-copy-out-result cast-result returns)
+stored-place-spec = tie.close (tie.spec (λ c. search needs) cast-result returns)

@@ -4,19 +4,13 @@ use Rattle.steps.specs.Settling.{decided}
 use Rattle.steps.proofs.decide.Statement.{statement}
 use Rattle.steps.proofs.decide.Tie as tie
 
-by-rule-2-requires : tie.Need-by-rule-2-requires
-by-rule-2-requires c κs = search needs
-
 returns : tie.Need-returns
 unfolding decided
 returns c = rw (c .before .if1 .taken) (c .by-rule-2 .ensures)
-
-by-rule-1-requires : tie.Need-by-rule-1-requires
-by-rule-1-requires c κs = search needs
 
 returns-2 : tie.Need-returns-2
 unfolding decided
 returns-2 c = rw (c .before .if1 .left) (c .by-rule-1 .ensures)
 
 pub decide-spec : {M : Type 1} → statement M
-decide-spec = tie.close (tie.spec by-rule-2-requires returns by-rule-1-requires returns-2)
+decide-spec = tie.close (tie.spec (λ c κs. search needs) returns (λ c κs. search needs) returns-2)

@@ -7,20 +7,11 @@ use Rattle.steps.proofs.Says.{gather-refused, gather-done}
 use Rattle.steps.proofs.gather.Statement.{statement}
 use Rattle.steps.proofs.gather.Tie as tie
 
-gather-refusal-requires : tie.Need-gather-refusal-requires
-gather-refusal-requires c κs = search needs
-
-same-length : tie.Need-same-length
-same-length c = search needs
-
 returns : tie.Need-returns
 returns c = gather-refused _ _ _ _ _ (c .before .before .gather-refusal .ensures) (c .if1 .taken)
 
 gather-checked-requires : tie.Need-gather-checked-requires
 gather-checked-requires c κs = gather-shows _ _ _ _ (number-of (sym (c .before .before .before .gather-refusal .ensures)) ∙ c .before .if1 .left)
-
-same-length-2 : tie.Need-same-length-2
-same-length-2 c = search needs
 
 returns-2 : tie.Need-returns-2
 returns-2 c =
@@ -31,9 +22,9 @@ pub gather-spec : {M : Type 1} → statement M
 gather-spec =
     tie.close
     (tie.spec
-    gather-refusal-requires
-    same-length
+    (λ c κs. search needs)
+    (λ c. search needs)
     returns
     gather-checked-requires
-    same-length-2
+    (λ c. search needs)
     returns-2)

@@ -14,9 +14,6 @@ ran c = c .before .before .before .before
 abbrev stored : tie.After-reserve2 → tie.After-reserve
 stored c = c .before .before .before .before
 
-run-into-requires : tie.Need-run-into-requires
-run-into-requires c κs = search needs
-
 reserve-requires : tie.Need-reserve-requires
 reserve-requires c κs = let r = c .before .before .before in after-run _ _ _ _ (start r .pre .0) (start r .pre .1) _ _ (r .run-into .ensures)
 
@@ -25,9 +22,6 @@ reserve-requires-2 c κs =
     let w = c .before .before .before in
     let r = ran w in
     after-stores _ _ _ _ (start r .pre .0) (start r .pre .1) _ _ (r .run-into .ensures) _ (w .reserve .ensures)
-
-same-length : tie.Need-same-length
-same-length c = search needs
 
 returns : tie.Need-returns
 returns c =
@@ -38,4 +32,4 @@ returns c =
 
 pub gather-checked-spec : {M : Type 1} → statement M
 gather-checked-spec =
-    tie.close (tie.spec run-into-requires reserve-requires reserve-requires-2 same-length returns)
+    tie.close (tie.spec (λ c κs. search needs) reserve-requires reserve-requires-2 (λ c. search needs) returns)

@@ -21,9 +21,6 @@ shown : (c : tie.Else1)
     → let a = start c .args in Checked (a .image .now) (a .table .now) (a .area .now) × (a .number < countOf (a .image .now))
 shown c = step-shows _ _ _ _ (number-of (sym (c .before .before .step-refusal .ensures)) ∙ c .if1 .left)
 
-step-refusal-requires : tie.Need-step-refusal-requires
-step-refusal-requires c κs = search needs
-
 returns : tie.Need-returns
 unfolding gatherRefusal
 returns c = first-refuses _ (c .before .before .step-refusal .ensures) (c .if1 .taken)
@@ -46,4 +43,4 @@ returns-3 c =
 
 pub gather-refusal-spec : {M : Type 1} → statement M
 gather-refusal-spec =
-    tie.close (tie.spec step-refusal-requires returns state-requires returns-2 returns-3)
+    tie.close (tie.spec (λ c κs. search needs) returns state-requires returns-2 returns-3)

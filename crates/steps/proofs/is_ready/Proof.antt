@@ -7,18 +7,9 @@ use borrow.Author.Needs.{needs}
 use Rattle.steps.proofs.is_ready.Statement.{statement}
 use Rattle.steps.proofs.is_ready.Tie as tie
 
-states-from-requires : tie.Need-states-from-requires
-states-from-requires c κs = search needs
-
 returns : tie.Need-returns
 unfolding isReady
 returns c = rw (sym (c .before .states-from .ensures) ∙ not-true _ (c .if1 .taken))
-
-state-requires : tie.Need-state-requires
-state-requires c κs = search needs
-
-can-settle-requires : tie.Need-can-settle-requires
-can-settle-requires c κs = search needs
 
 returns-2 : tie.Need-returns-2
 unfolding isReady
@@ -28,4 +19,4 @@ returns-2 c =
 
 pub is-ready-spec : {M : Type 1} → statement M
 is-ready-spec =
-    tie.close (tie.spec states-from-requires returns state-requires can-settle-requires returns-2)
+    tie.close (tie.spec (λ c κs. search needs) returns (λ c κs. search needs) (λ c κs. search needs) returns-2)

@@ -4,21 +4,6 @@ use borrow.Author.Needs.{needs}
 use Rattle.steps.proofs.judge.Statement.{statement}
 use Rattle.steps.proofs.judge.Tie as tie
 
-second-rule-requires : tie.Need-second-rule-requires
-second-rule-requires c κs = search needs
-
-depends-requires : tie.Need-depends-requires
-depends-requires c κs = search needs
-
-depends-requires-2 : tie.Need-depends-requires-2
-depends-requires-2 c κs = search needs
-
-depends-requires-3 : tie.Need-depends-requires-3
-depends-requires-3 c κs = search needs
-
-decide-requires : tie.Need-decide-requires
-decide-requires c κs = search needs
-
 returns : tie.Need-returns
 returns c =
     let a = c .before .before .before .before .before .before .before .args in
@@ -29,9 +14,9 @@ pub judge-spec : {M : Type 1} → statement M
 judge-spec =
     tie.close
     (tie.spec
-    second-rule-requires
-    depends-requires
-    depends-requires-2
-    depends-requires-3
-    decide-requires
+    (λ c κs. search needs)
+    (λ c κs. search needs)
+    (λ c κs. search needs)
+    (λ c κs. search needs)
+    (λ c κs. search needs)
     returns)

@@ -15,24 +15,6 @@ use Rattle.steps.proofs.run_into.Tie as tie
 part-of-requires : tie.Need-part-of-requires
 part-of-requires c κs = let s = c .before .before .before in (lies _ (accepted _ (s .pre .0 .accepted) .offsets) _ (s .pre .1), omega (arith, s .pre .0 .programs, s .pre .1))
 
-slot-start-requires : tie.Need-slot-start-requires
-slot-start-requires c κs = search needs
-
-add-end : tie.Need-add-end
-add-end c = search needs
-
-mul-run-program : tie.Need-mul-run-program
-mul-run-program c = search needs
-
-sub-run-program : tie.Need-sub-run-program
-sub-run-program c = search needs
-
-part-run-program-start : tie.Need-part-run-program-start
-part-run-program-start c = search needs
-
-part-run-program-end : tie.Need-part-run-program-end
-part-run-program-end c = search needs
-
 run-program-requires : tie.Need-run-program-requires
 run-program-requires c κs =
     let s = c .before .before .before .before .before .before in (
@@ -41,9 +23,6 @@ run-program-requires c κs =
       s .pre .0 .cells-few,
       simp (length-take, length-drop) (omega (arith, s .pre .0 .sized, s .pre .1, c .before .slot-start .ensures)),
     )
-
-same-length : tie.Need-same-length
-same-length c = search needs
 
 returns : tie.Need-returns
 returns c =
@@ -55,12 +34,12 @@ run-into-spec =
     tie.close
     (tie.spec
     part-of-requires
-    slot-start-requires
-    add-end
-    mul-run-program
-    sub-run-program
-    part-run-program-start
-    part-run-program-end
+    (λ c κs. search needs)
+    (λ c. search needs)
+    (λ c. search needs)
+    (λ c. search needs)
+    (λ c. search needs)
+    (λ c. search needs)
     run-program-requires
-    same-length
+    (λ c. search needs)
     returns)

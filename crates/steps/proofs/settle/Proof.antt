@@ -7,26 +7,11 @@ use Rattle.steps.proofs.Says.{settle-refused, settle-done}
 use Rattle.steps.proofs.settle.Statement.{statement}
 use Rattle.steps.proofs.settle.Tie as tie
 
-settle-refusal-requires : tie.Need-settle-refusal-requires
-settle-refusal-requires c κs = search needs
-
-same-length : tie.Need-same-length
-same-length c = search needs
-
-same-length-2 : tie.Need-same-length-2
-same-length-2 c = search needs
-
 returns : tie.Need-returns
 returns c = settle-refused _ _ _ _ _ (c .before .before .settle-refusal .ensures) (c .if1 .taken)
 
 settle-checked-requires : tie.Need-settle-checked-requires
 settle-checked-requires c κs = settle-shows _ _ _ _ (number-of (sym (c .before .before .before .before .settle-refusal .ensures)) ∙ c .before .before .if1 .left)
-
-same-length-3 : tie.Need-same-length-3
-same-length-3 c = search needs
-
-same-length-4 : tie.Need-same-length-4
-same-length-4 c = search needs
 
 returns-2 : tie.Need-returns-2
 returns-2 c =
@@ -38,11 +23,11 @@ pub settle-spec : {M : Type 1} → statement M
 settle-spec =
     tie.close
     (tie.spec
-    settle-refusal-requires
-    same-length
-    same-length-2
+    (λ c κs. search needs)
+    (λ c. search needs)
+    (λ c. search needs)
     returns
     settle-checked-requires
-    same-length-3
-    same-length-4
+    (λ c. search needs)
+    (λ c. search needs)
     returns-2)

@@ -21,22 +21,10 @@ judge-requires c κs = let s = c .before .before .before .before in program-slot
 store-committed-requires : tie.Need-store-committed-requires
 store-committed-requires c κs = let s = c .before .before .before .before .before .before .before in program-slotted _ _ _ (s .pre .0) _ (s .pre .1)
 
-state-of-requires : tie.Need-state-of-requires
-state-of-requires c κs = search needs
-
-detail-of-requires : tie.Need-detail-of-requires
-detail-of-requires c κs = search needs
-
 write-state-requires : tie.Need-write-state-requires
 write-state-requires c κs =
     let s = start (decided-at (c .before .before .before .before .before)) in
     program-lies _ _ _ (s .pre .0) _ (s .pre .1)
-
-same-length : tie.Need-same-length
-same-length c = search needs
-
-same-length-2 : tie.Need-same-length-2
-same-length-2 c = search needs
 
 returns : tie.Need-returns
 returns c =
@@ -53,9 +41,9 @@ settle-checked-spec =
     (tie.spec
     judge-requires
     store-committed-requires
-    state-of-requires
-    detail-of-requires
+    (λ c κs. search needs)
+    (λ c κs. search needs)
     write-state-requires
-    same-length
-    same-length-2
+    (λ c. search needs)
+    (λ c. search needs)
     returns)

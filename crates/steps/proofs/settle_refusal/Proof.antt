@@ -26,15 +26,9 @@ looked : (c : tie.After-is-ready)
     → let a = start (c .before .before) .args in c .is-ready .result ≡ isReady (length (a .table .now)) (countOf (a .image .now)) (a .number) (a .area .now)
 looked c = rw (← c .before .count .ensures .0) (c .is-ready .ensures)
 
-step-refusal-requires : tie.Need-step-refusal-requires
-step-refusal-requires c κs = search needs
-
 returns : tie.Need-returns
 unfolding settleRefusal
 returns c = first-refuses _ (c .before .before .step-refusal .ensures) (c .if1 .taken)
-
-count-requires : tie.Need-count-requires
-count-requires c κs = search needs
 
 is-ready-requires : tie.Need-is-ready-requires
 is-ready-requires c κs =
@@ -56,4 +50,4 @@ returns-3 c =
 pub settle-refusal-spec : {M : Type 1} → statement M
 settle-refusal-spec =
     tie.close
-    (tie.spec step-refusal-requires returns count-requires is-ready-requires returns-2 returns-3)
+    (tie.spec (λ c κs. search needs) returns (λ c κs. search needs) is-ready-requires returns-2 returns-3)

@@ -14,15 +14,9 @@ use Rattle.steps.proofs.step_refusal.Tie as tie
 abbrev start : tie.Else1 → tie.Start
 start c = c .before .before .before .before .before .before
 
-call-refusal-requires : tie.Need-call-refusal-requires
-call-refusal-requires c κs = search needs
-
 returns : tie.Need-returns
 unfolding stepRefusal
 returns c = first-refuses _ (c .before .before .call-refusal .ensures) (c .if1 .taken)
-
-count-requires : tie.Need-count-requires
-count-requires c κs = search needs
 
 returns-2 : tie.Need-returns-2
 unfolding stepRefusal
@@ -42,4 +36,4 @@ returns-3 c =
 
 pub step-refusal-spec : {M : Type 1} → statement M
 step-refusal-spec =
-    tie.close (tie.spec call-refusal-requires returns count-requires returns-2 returns-3)
+    tie.close (tie.spec (λ c κs. search needs) returns (λ c κs. search needs) returns-2 returns-3)

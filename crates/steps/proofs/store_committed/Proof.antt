@@ -4,24 +4,9 @@ use Rattle.steps.specs.Settling.{settledTable}
 use Rattle.steps.proofs.store_committed.Statement.{statement}
 use Rattle.steps.proofs.store_committed.Tie as tie
 
-enum-told : tie.Need-enum-told
-enum-told c = search needs
-
-enum-told-2 : tie.Need-enum-told-2
-enum-told-2 c = search needs
-
-commit-requires : tie.Need-commit-requires
-commit-requires c κs = search needs
-
-enum-told-3 : tie.Need-enum-told-3
-enum-told-3 c = search needs
-
 returns : tie.Need-returns
 unfolding settledTable
 returns c = rw (c .enum-told .given .1)
-
-same-length : tie.Need-same-length
-same-length c = search needs
 
 returns-2 : tie.Need-returns-2
 unfolding settledTable
@@ -35,11 +20,11 @@ pub store-committed-spec : {M : Type 1} → statement M
 store-committed-spec =
     tie.close
     (tie.spec
-    enum-told
-    enum-told-2
-    commit-requires
-    enum-told-3
+    (λ c. search needs)
+    (λ c. search needs)
+    (λ c κs. search needs)
+    (λ c. search needs)
     returns
-    same-length
+    (λ c. search needs)
     returns-2
     returns-3)

@@ -35,12 +35,6 @@ copy-part-requires c κs =
     let room = body-room (hasBit (s .args .mask)) (s .args .image .now) (omega arith) (h .loop .inv .1) (s .pre .1) in
     omega (arith, room .fits, ap length (c .before .taken-part .ensures))
 
-add-i : tie.Need-add-i Inv-loop μ-loop
-add-i c = search needs
-
-loop-less : tie.Need-loop-less Inv-loop μ-loop
-loop-less c = search needs
-
 loop-again : tie.Need-loop-again Inv-loop μ-loop
 loop-again c =
     let u = c .before .before .copy-part in
@@ -48,9 +42,6 @@ loop-again c =
     let h = p .before .before in
     let s = start-of h in
     (search needs, body-turn (hasBit (s .args .mask)) (s .args .image .now) (omega arith) (h .loop .inv .1) (s .pre .1) (rw (p .taken-part .ensures) at (u .ensures)))
-
-same-length : tie.Need-same-length Inv-loop μ-loop
-same-length c = search needs
 
 returns : tie.Need-returns Inv-loop μ-loop
 returns c =
@@ -67,8 +58,8 @@ put-bodies-spec =
     loop-holds
     taken-part-requires
     copy-part-requires
-    add-i
-    loop-less
+    (λ c. search needs)
+    (λ c. search needs)
     loop-again
-    same-length
+    (λ c. search needs)
     returns)

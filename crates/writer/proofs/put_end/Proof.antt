@@ -21,9 +21,6 @@ taken c =
     let a = start-of (c .before) .args in
     pick-in (hasBit (a .mask)) (a .image .now) (a .i) (sym (c .before .has .ensures) ∙ not-false _ (c .if1 .left))
 
-has-requires : tie.Need-has-requires
-has-requires c κs = search needs
-
 returns : tie.Need-returns
 returns c =
     let a = start-of (c .before) .args in
@@ -35,16 +32,10 @@ part-of-requires c κs =
     let s = start-of (c .before) in
     (s .pre .0 .lies _ (s .pre .1) (sym (c .before .has .ensures) ∙ not-false _ (c .if1 .left)), omega (arith, s .pre .0 .few, s .pre .1))
 
-add-end : tie.Need-add-end
-add-end c = search needs
-
 put-number-requires : tie.Need-put-number-requires
 put-number-requires c κs =
     let e = c .before .before .before in
     omega (arith, start-of (e .before) .pre .2 .to-fits, ap length (taken e))
-
-same-length : tie.Need-same-length
-same-length c = search needs
 
 returns-2 : tie.Need-returns-2
 returns-2 c =
@@ -55,10 +46,10 @@ pub put-end-spec : {M : Type 1} → statement M
 put-end-spec =
     tie.close
     (tie.spec
-    has-requires
+    (λ c κs. search needs)
     returns
     part-of-requires
-    add-end
+    (λ c. search needs)
     put-number-requires
-    same-length
+    (λ c. search needs)
     returns-2)

@@ -35,12 +35,6 @@ put-end-requires c κs =
       end-room (hasBit (a .mask)) (a .image .now) (omega arith) (l .inv .1) (s .pre .1),
     )
 
-add-i : tie.Need-add-i Inv-loop μ-loop
-add-i c = search needs
-
-loop-less : tie.Need-loop-less Inv-loop μ-loop
-loop-less c = search needs
-
 loop-again : tie.Need-loop-again Inv-loop μ-loop
 loop-again c =
     let u = c .before .before .put-end in
@@ -49,9 +43,6 @@ loop-again c =
     let s = start-of h in
     let a = s .args in
     (search needs, end-turn (hasBit (a .mask)) (a .image .now) (omega arith) (l .inv .1) (s .pre .1) (u .ensures))
-
-same-length : tie.Need-same-length Inv-loop μ-loop
-same-length c = search needs
 
 returns : tie.Need-returns Inv-loop μ-loop
 returns c =
@@ -68,8 +59,8 @@ put-ends-spec =
     μ-loop
     loop-holds
     put-end-requires
-    add-i
-    loop-less
+    (λ c. search needs)
+    (λ c. search needs)
     loop-again
-    same-length
+    (λ c. search needs)
     returns)

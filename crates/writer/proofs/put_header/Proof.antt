@@ -14,16 +14,10 @@ start-of c = c .before .before .before
 abbrev first-of : tie.After-put-pair → tie.After-put-number
 first-of c = c .before .before .before .before
 
-put-number-requires : tie.Need-put-number-requires
-put-number-requires c κs = search needs
-
 put-pair-requires : tie.Need-put-pair-requires
 put-pair-requires c κs =
     let f = c .before .before .before in
     omega (arith, f .put-number .ensures .long, f .put-number .ensures .next, length-number (start-of f .args .count), start-of f .pre .0)
-
-head-bytes-requires : tie.Need-head-bytes-requires
-head-bytes-requires c κs = search needs
 
 put-number-requires-2 : tie.Need-put-number-requires-2
 put-number-requires-2 c κs =
@@ -32,9 +26,6 @@ put-number-requires-2 c κs =
     let p = f .put-number .ensures in
     let q = g .put-pair .ensures in
     omega (arith, q .long, q .next, p .long, p .next, length-number (start-of f .args .count), start-of f .pre .0)
-
-same-length : tie.Need-same-length
-same-length c = search needs
 
 returns : tie.Need-returns
 unfolding header
@@ -49,9 +40,9 @@ pub put-header-spec : {M : Type 1} → statement M
 put-header-spec =
     tie.close
     (tie.spec
-    put-number-requires
+    (λ c κs. search needs)
     put-pair-requires
-    head-bytes-requires
+    (λ c κs. search needs)
     put-number-requires-2
-    same-length
+    (λ c. search needs)
     returns)

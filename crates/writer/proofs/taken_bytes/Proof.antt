@@ -32,12 +32,6 @@ add-size c =
     let s = start-of (c .before .before) in
     omega (arith, l .inv .1, ap length (c .taken-part .ensures), s .pre .few, pick-short (s .pre) (l .i) (omega arith), picked-short (s .pre) (l .i) (omega arith))
 
-add-i : tie.Need-add-i Inv-loop μ-loop
-add-i c = search needs
-
-loop-less : tie.Need-loop-less Inv-loop μ-loop
-loop-less c = search needs
-
 loop-again : tie.Need-loop-again Inv-loop μ-loop
 loop-again c =
     let l = c .before .before .loop in
@@ -61,7 +55,7 @@ taken-bytes-spec =
     loop-holds
     taken-part-requires
     add-size
-    add-i
-    loop-less
+    (λ c. search needs)
+    (λ c. search needs)
     loop-again
     returns)

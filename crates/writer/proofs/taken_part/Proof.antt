@@ -8,16 +8,10 @@ use Rattle.writer.proofs.Programs.{pick-in, pick-out, joined-one, joine
 use Rattle.writer.proofs.taken_part.Statement.{statement}
 use Rattle.writer.proofs.taken_part.Tie as tie
 
-has-requires : tie.Need-has-requires
-has-requires c κs = search needs
-
 part-of-requires : tie.Need-part-of-requires
 part-of-requires c κs =
     let s = c .before .before .before in
     (s .pre .0 .lies _ (s .pre .1) (sym (c .before .has .ensures) ∙ c .if1 .taken), omega (arith, s .pre .0 .few, s .pre .1))
-
-slice-aggregate-result : tie.Need-slice-aggregate-result
-slice-aggregate-result c = search needs
 
 returns : tie.Need-returns
 returns c =
@@ -32,4 +26,4 @@ returns-2 c =
 pub taken-part-spec : {M : Type 1} → statement M
 taken-part-spec =
     tie.close
-    (tie.spec has-requires part-of-requires slice-aggregate-result returns returns-2)
+    (tie.spec (λ c κs. search needs) part-of-requires (λ c. search needs) returns returns-2)

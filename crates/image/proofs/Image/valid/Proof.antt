@@ -4,15 +4,9 @@ use Rattle.image.specs.Image.{headerGood}
 use Rattle.image.proofs.Image.valid.Statement.{statement}
 use Rattle.image.proofs.Image.valid.Tie as tie
 
-cast-all : tie.Need-cast-all
-cast-all c = search needs
-
-all-requires : tie.Need-all-requires
-all-requires c κs = search needs
-
 returns : tie.Need-returns
 unfolding headerGood
 returns c = search needs
 
 pub valid-spec : {M : Type 1} → statement M
-valid-spec = tie.close (tie.spec cast-all all-requires returns)
+valid-spec = tie.close (tie.spec (λ c. search needs) (λ c κs. search needs) returns)

@@ -16,45 +16,6 @@ names-b c = sym (c .before .register2 .ensures)
 names-c : (c : tie.After-register3) → isRegister (c .before .before .before .args .c) ≡ c .register3 .result
 names-c c = sym (c .register3 .ensures)
 
-add-past : tie.Need-add-past
-add-past c = search needs
-
-add-past-2 : tie.Need-add-past-2
-add-past-2 c = search needs
-
-register-requires : tie.Need-register-requires
-register-requires c κs = search needs
-
-register-requires-2 : tie.Need-register-requires-2
-register-requires-2 c κs = search needs
-
-register-requires-3 : tie.Need-register-requires-3
-register-requires-3 c κs = search needs
-
-all-requires : tie.Need-all-requires
-all-requires c κs = search needs
-
-all-requires-2 : tie.Need-all-requires-2
-all-requires-2 c κs = search needs
-
-all-requires-3 : tie.Need-all-requires-3
-all-requires-3 c κs = search needs
-
-all-requires-4 : tie.Need-all-requires-4
-all-requires-4 c κs = search needs
-
-all-requires-5 : tie.Need-all-requires-5
-all-requires-5 c κs = search needs
-
-all-requires-6 : tie.Need-all-requires-6
-all-requires-6 c κs = search needs
-
-all-requires-7 : tie.Need-all-requires-7
-all-requires-7 c κs = search needs
-
-all-requires-8 : tie.Need-all-requires-8
-all-requires-8 c κs = search needs
-
 returns : tie.Need-returns
 unfolding instructionGood
 returns c = rw (c .before .match .keys1) (c .all .ensures)
@@ -111,19 +72,19 @@ pub instruction-good-spec : {M : Type 1} → statement M
 instruction-good-spec =
     tie.close
     (tie.spec
-    add-past
-    add-past-2
-    register-requires
-    register-requires-2
-    register-requires-3
-    all-requires
-    all-requires-2
-    all-requires-3
-    all-requires-4
-    all-requires-5
-    all-requires-6
-    all-requires-7
-    all-requires-8
+    (λ c. search needs)
+    (λ c. search needs)
+    (λ c κs. search needs)
+    (λ c κs. search needs)
+    (λ c κs. search needs)
+    (λ c κs. search needs)
+    (λ c κs. search needs)
+    (λ c κs. search needs)
+    (λ c κs. search needs)
+    (λ c κs. search needs)
+    (λ c κs. search needs)
+    (λ c κs. search needs)
+    (λ c κs. search needs)
     returns
     returns-2
     returns-3

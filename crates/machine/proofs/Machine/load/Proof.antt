@@ -13,33 +13,6 @@ use Rattle.machine.proofs.Machine.load.Tie as tie
 abbrev start-of : tie.After-register → tie.Start
 start-of q = q .before .before .before
 
-register-requires : tie.Need-register-requires
-register-requires c κs = search needs
-
-cast-i : tie.Need-cast-i
-cast-i c = search needs
-
-stored-place-requires : tie.Need-stored-place-requires
-stored-place-requires c κs = search needs
-
-note-read-requires : tie.Need-note-read-requires
-note-read-requires c κs = search needs
-
-mul-written : tie.Need-mul-written
-mul-written c = search needs
-
-shared-slice-read-written : tie.Need-shared-slice-read-written
-shared-slice-read-written c = search needs
-
-written-requires : tie.Need-written-requires
-written-requires c κs = search needs
-
-goes-requires : tie.Need-goes-requires
-goes-requires c κs = search needs
-
-same-length : tie.Need-same-length
-same-length c = search needs
-
 returns : tie.Need-returns
 unfolding withRead
 returns c =
@@ -55,27 +28,6 @@ returns c =
     (sym (p .stored-place .ensures .0) ∙ d .before .before .if2 .taken))
     (c .goes .ensures) (c .before .written .ensures) (d .note-read .ensures) (s .pre .0 .marked)
 
-add-written : tie.Need-add-written
-add-written c = search needs
-
-sub-written : tie.Need-sub-written
-sub-written c = search needs
-
-mul-written-2 : tie.Need-mul-written-2
-mul-written-2 c = search needs
-
-slice-read-written : tie.Need-slice-read-written
-slice-read-written c = search needs
-
-written-requires-2 : tie.Need-written-requires-2
-written-requires-2 c κs = search needs
-
-goes-requires-2 : tie.Need-goes-requires-2
-goes-requires-2 c κs = search needs
-
-same-length-2 : tie.Need-same-length-2
-same-length-2 c = search needs
-
 returns-2 : tie.Need-returns-2
 returns-2 c =
     let p = c .before .before .before .before in
@@ -89,9 +41,6 @@ returns-2 c =
     (p .before .before .if1 .taken) k (p .stored-place .ensures .0) (c .before .before .before .if2 .left))
     (c .goes2 .ensures) (c .before .written2 .ensures) (s .pre .0 .holds .is) (s .pre .0 .marked)
 
-faults-requires : tie.Need-faults-requires
-faults-requires c κs = search needs
-
 returns-3 : tie.Need-returns-3
 returns-3 c =
     let q = c .before .before in
@@ -104,23 +53,23 @@ pub load-spec : {M : Type 1} → statement M
 load-spec =
     tie.close
     (tie.spec
-    register-requires
-    cast-i
-    stored-place-requires
-    note-read-requires
-    mul-written
-    shared-slice-read-written
-    written-requires
-    goes-requires
-    same-length
+    (λ c κs. search needs)
+    (λ c. search needs)
+    (λ c κs. search needs)
+    (λ c κs. search needs)
+    (λ c. search needs)
+    (λ c. search needs)
+    (λ c κs. search needs)
+    (λ c κs. search needs)
+    (λ c. search needs)
     returns
-    add-written
-    sub-written
-    mul-written-2
-    slice-read-written
-    written-requires-2
-    goes-requires-2
-    same-length-2
+    (λ c. search needs)
+    (λ c. search needs)
+    (λ c. search needs)
+    (λ c. search needs)
+    (λ c κs. search needs)
+    (λ c κs. search needs)
+    (λ c. search needs)
     returns-2
-    faults-requires
+    (λ c κs. search needs)
     returns-3)

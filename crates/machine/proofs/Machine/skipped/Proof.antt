@@ -6,9 +6,6 @@ use Rattle.machine.specs.declared.Machine.{Machine}
 use Rattle.machine.proofs.Machine.skipped.Statement.{statement}
 use Rattle.machine.proofs.Machine.skipped.Tie as tie
 
-passed-requires : tie.Need-passed-requires
-passed-requires c κs = search needs
-
 add-next : tie.Need-add-next
 add-next c = omega (arith, ap (λ (m : Machine). m .place) (c .before .before .passed .ensures))
 
@@ -19,4 +16,4 @@ returns-2 : tie.Need-returns-2
 returns-2 c = rw (c .if1 .left) (c .before .passed .ensures)
 
 pub skipped-spec : {M : Type 1} → statement M
-skipped-spec = tie.close (tie.spec passed-requires add-next returns returns-2)
+skipped-spec = tie.close (tie.spec (λ c κs. search needs) add-next returns returns-2)

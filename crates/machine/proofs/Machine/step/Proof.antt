@@ -18,16 +18,10 @@ asks : (s : tie.Start) {k : ℕ} → s .args .op ≡ k
     → askOf (s .args .op) (s .args .a) (s .args .b) (s .args .c) (s .args .self) ≡ askOf k (s .args .a) (s .args .b) (s .args .c) (s .args .self)
 asks s e = ap (λ (o : ℕ). askOf o (s .args .a) (s .args .b) (s .args .c) (s .args .self)) e
 
-stops-requires : tie.Need-stops-requires
-stops-requires c κs = search needs
-
 set-requires : tie.Need-set-requires
 set-requires c κs =
     let s = start-of (c .before) in
     (s .pre .1 .first (omega arith) (omega arith), s .pre .0 .within)
-
-goes-requires : tie.Need-goes-requires
-goes-requires c κs = search needs
 
 load-requires : tie.Need-load-requires
 load-requires c κs =
@@ -44,38 +38,20 @@ add-requires c κs =
     let s = start-of (c .before) in
     (s .pre .1 .first (omega arith) (omega arith), s .pre .1 .second (omega arith) (omega arith), s .pre .1 .third (omega arith) (omega arith), s .pre .0 .within)
 
-goes-requires-2 : tie.Need-goes-requires-2
-goes-requires-2 c κs = search needs
-
 sub-requires : tie.Need-sub-requires
 sub-requires c κs =
     let s = start-of (c .before) in
     (s .pre .1 .first (omega arith) (omega arith), s .pre .1 .second (omega arith) (omega arith), s .pre .1 .third (omega arith) (omega arith), s .pre .0 .within)
-
-goes-requires-3 : tie.Need-goes-requires-3
-goes-requires-3 c κs = search needs
 
 skip-less-requires : tie.Need-skip-less-requires
 skip-less-requires c κs =
     let s = start-of (c .before) in
     (s .pre .1 .first (omega arith) (omega arith), s .pre .1 .second (omega arith) (omega arith), s .pre .0 .within)
 
-goes-requires-4 : tie.Need-goes-requires-4
-goes-requires-4 c κs = search needs
-
 skip-equal-requires : tie.Need-skip-equal-requires
 skip-equal-requires c κs =
     let s = start-of (c .before) in
     (s .pre .1 .first (omega arith) (omega arith), s .pre .1 .second (omega arith) (omega arith), s .pre .0 .within)
-
-goes-requires-5 : tie.Need-goes-requires-5
-goes-requires-5 c κs = search needs
-
-stops-requires-2 : tie.Need-stops-requires-2
-stops-requires-2 c κs = search needs
-
-stops-requires-3 : tie.Need-stops-requires-3
-stops-requires-3 c κs = search needs
 
 returns : tie.Need-returns
 unfolding askOf
@@ -89,17 +65,11 @@ returns-2 c =
     let s = start-of (c .before .before .before) in
     did-move (s .pre .0) (c .before .set .result) _ (asks s (c .before .before .match .keys2)) (c .before .set .ensures) (c .goes .ensures)
 
-same-length : tie.Need-same-length
-same-length c = search needs
-
 returns-3 : tie.Need-returns-3
 unfolding askOf
 returns-3 c =
     let d = c .before .before in
     did-as (asks (start-of (d .before .before .before .before)) (d .before .before .before .match .keys3)) (d .load .ensures)
-
-same-length-2 : tie.Need-same-length-2
-same-length-2 c = search needs
 
 returns-4 : tie.Need-returns-4
 unfolding askOf
@@ -153,26 +123,26 @@ pub step-spec : {M : Type 1} → statement M
 step-spec =
     tie.close
     (tie.spec
-    stops-requires
+    (λ c κs. search needs)
     set-requires
-    goes-requires
+    (λ c κs. search needs)
     load-requires
     store-requires
     add-requires
-    goes-requires-2
+    (λ c κs. search needs)
     sub-requires
-    goes-requires-3
+    (λ c κs. search needs)
     skip-less-requires
-    goes-requires-4
+    (λ c κs. search needs)
     skip-equal-requires
-    goes-requires-5
-    stops-requires-2
-    stops-requires-3
+    (λ c κs. search needs)
+    (λ c κs. search needs)
+    (λ c κs. search needs)
     returns
     returns-2
-    same-length
+    (λ c. search needs)
     returns-3
-    same-length-2
+    (λ c. search needs)
     returns-4
     returns-5
     returns-6

@@ -9,27 +9,6 @@ use Rattle.machine.proofs.Machine.store.Tie as tie
 abbrev start-of : tie.After-register → tie.Start
 start-of q = q .before .before .before
 
-register-requires : tie.Need-register-requires
-register-requires c κs = search needs
-
-cast-i : tie.Need-cast-i
-cast-i c = search needs
-
-register-requires-2 : tie.Need-register-requires-2
-register-requires-2 c κs = search needs
-
-note-store-requires : tie.Need-note-store-requires
-note-store-requires c κs = search needs
-
-passed-requires : tie.Need-passed-requires
-passed-requires c κs = search needs
-
-goes-requires : tie.Need-goes-requires
-goes-requires c κs = search needs
-
-same-length : tie.Need-same-length
-same-length c = search needs
-
 returns : tie.Need-returns
 returns c =
     let d = c .before .before .before .before in
@@ -43,9 +22,6 @@ returns c =
     (store-within (a .table .now) (a .self) l r _ (q .register .ensures) _ w (d .before .register2 .ensures) (d .before .before .before .before .if1 .taken))
     (c .goes .ensures) (c .before .passed .ensures) (d .note-store .ensures .0) (d .note-store .ensures .1)
 
-faults-requires : tie.Need-faults-requires
-faults-requires c κs = search needs
-
 returns-2 : tie.Need-returns-2
 returns-2 c =
     let q = c .before .before in
@@ -58,13 +34,13 @@ pub store-spec : {M : Type 1} → statement M
 store-spec =
     tie.close
     (tie.spec
-    register-requires
-    cast-i
-    register-requires-2
-    note-store-requires
-    passed-requires
-    goes-requires
-    same-length
+    (λ c κs. search needs)
+    (λ c. search needs)
+    (λ c κs. search needs)
+    (λ c κs. search needs)
+    (λ c κs. search needs)
+    (λ c κs. search needs)
+    (λ c. search needs)
     returns
-    faults-requires
+    (λ c κs. search needs)
     returns-2)

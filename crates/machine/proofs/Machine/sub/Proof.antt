@@ -6,18 +6,6 @@ use Rattle.machine.specs.Asks.{subtracted}
 use Rattle.machine.proofs.Machine.sub.Statement.{statement}
 use Rattle.machine.proofs.Machine.sub.Tie as tie
 
-register-requires : tie.Need-register-requires
-register-requires c κs = search needs
-
-register-requires-2 : tie.Need-register-requires-2
-register-requires-2 c κs = search needs
-
-wrapping-sub-u32-requires : tie.Need-wrapping-sub-u32-requires
-wrapping-sub-u32-requires c κs = search needs
-
-written-requires : tie.Need-written-requires
-written-requires c κs = search needs
-
 returns : tie.Need-returns
 returns c =
     let w = c .before in
@@ -30,8 +18,8 @@ pub sub-spec : {M : Type 1} → statement M
 sub-spec =
     tie.close
     (tie.spec
-    register-requires
-    register-requires-2
-    wrapping-sub-u32-requires
-    written-requires
+    (λ c κs. search needs)
+    (λ c κs. search needs)
+    (λ c κs. search needs)
+    (λ c κs. search needs)
     returns)
