@@ -11,6 +11,7 @@ pub mod Progress
 pub mod Playing
 pub mod Endings
 pub mod Histories
+pub mod Cases
 pub mod Conflicts
 pub mod PaperOrder
 pub mod Replay

@@ -4,3 +4,4 @@ pub mod History
 pub mod Serial
 pub mod Batches
 pub mod Opened
+pub mod Sheet
