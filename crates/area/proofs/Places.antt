@@ -14,7 +14,7 @@ use Rattle.slot.proofs.ListKinds.{list-lies}
 use Rattle.area.specs.declared.MarkKind.{MarkKind}
 use Rattle.area.specs.declared.Span.{Span}
 use Rattle.area.specs.Layout.{marksAt, countAt, valuesAt, spanOf, listOf, valuesOf}
-use Rattle.area.specs.Marks.{storedBy, committed}
+use Rattle.area.specs.Marks.{storedBy, committedTable}
 use Rattle.area.specs.Checks.{allBelow, listGood, HasSlot, Slotted, Names, Storing}
 use Rattle.area.proofs.Views.{marks-low}
 
@@ -49,7 +49,7 @@ module _ (T k : ℕ) (a : List ℕ) (l : ListKind) (s : Span) (e : s ≡ spanOf 
       (λ g. omega (arith, r .lies, list-lies l .1)) h
 
 module _ (k : ℕ) (a t : List ℕ) (s : Span) (e : s ≡ spanOf Stores (length t) k a) (values : ℕ) (q : values ≡ valuesAt (length t) k) where
-  pub by-stores : (u : List ℕ) → u ≡ storedBy (s .at) values (s .count) a t → u ≡ committed (length t) k a t
+  pub by-stores : (u : List ℕ) → u ≡ storedBy (s .at) values (s .count) a t → u ≡ committedTable (length t) k a t
   unfolding listOf valuesOf
   by-stores u h = h ∙ rw (q, e)
 

@@ -62,5 +62,5 @@ storeAll (c ∷ cs) (v ∷ vs) t = storeAll cs vs (set t c v)
 abbrev pub storedBy : (cells values count : ℕ) → List ℕ → List ℕ → List ℕ
 storedBy cells values count a t = storeAll (words cells count a) (words values count a) t
 
-abbrev pub committed : ℕ → ℕ → List ℕ → List ℕ → List ℕ
-committed T k a t = storeAll (storesOf T k a) (valuesOf T k a) t
+abbrev pub committedTable : ℕ → ℕ → List ℕ → List ℕ → List ℕ
+committedTable T k a t = storeAll (storesOf T k a) (valuesOf T k a) t

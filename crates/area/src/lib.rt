@@ -6,7 +6,7 @@ ghost use Rattle.base.specs.Words.{words};
 ghost use Rattle.base.specs.Masks.{maskOf};
 ghost use Rattle.image.specs.Limits.{maxPrograms, maxCells};
 ghost use Rattle.area.specs.Layout.{areaWords, marksAt, slotStart, spanOf, listOf, stateOf, inGroup, withState};
-ghost use Rattle.area.specs.Marks.{lower, reserve, earlier, hit, depends, storedBy, committed};
+ghost use Rattle.area.specs.Marks.{lower, reserve, earlier, hit, depends, storedBy, committedTable};
 ghost use Rattle.area.specs.Checks.{tableGood, allBelow, listGood, slotGood, slotsGood, wordsGood, statesFrom};
 ghost use Rattle.area.specs.Checks.{roomRefusal, openRefusal, callRefusal, endedRefusal, Measured, HasSlot, Slotted, Names, Storing};
 
@@ -152,7 +152,7 @@ pub fn reserve(area: &mut [u32], cells: usize, number: usize, list: slot::ListKi
 // The program's stores go into the table.
 pub fn commit(table: &mut [u32], area: &[u32], number: usize)
     requires { ⌜ Slotted (length (now table)) number (now area) ⌝ }
-    ensures { λ _. ⌜ now (table .exit) ≡ committed (length (now (table .entry))) number (now (area .entry)) (now (table .entry)) ⌝ }
+    ensures { λ _. ⌜ now (table .exit) ≡ committedTable (length (now (table .entry))) number (now (area .entry)) (now (table .entry)) ⌝ }
 {
     let s = span_of(area, table.len(), number, slot::ListKind::Stores);
     let values = slot_start(table.len(), number) + slot::VALUES;

@@ -4,11 +4,12 @@ use Prim.Native.Nat.{ℕ, zero, suc, _+_, _*_, _%_, _≤_, _<_}
 use mathlib.Core.Path.{_≡_}
 use mathlib.Core.Bool.{Bool, true, false, cond}
 use mathlib.Core.List.{List, [], _∷_, _++_}
-use lib.ListN.{length, getD}
+use lib.ListN.{length, getD, replicate}
 use lib.Dec.{ltb}
 use Rattle.image.specs.Limits.{registers, instructionBytes, maxInstructions, maxProgramBytes, maxCells}
 use Rattle.image.specs.Instruction.{instructionsOf, programGood}
 use Rattle.slot.specs.States.{waiting, gathered, rejected, faulted}
+use Rattle.slot.specs.Layout.{slotWords}
 use Rattle.slot.specs.Log.{Log, empty, loaded, withRead, withStore, layout, logOf, Holds, Marked}
 use Rattle.machine.specs.declared.Machine.{Machine}
 use Rattle.machine.specs.declared.Run.{Run}
@@ -118,6 +119,13 @@ pub record Runnable (p : List ℕ) : Type 0 where
   pub short : length p ≤ maxProgramBytes
   pub whole : length p % instructionBytes ≡ 0
   pub good : programGood p ≡ true
+
+-- What the turns of a run begin with: a program that can be run, and nothing read or stored.
+pub record Begins (p t slot marks : List ℕ) : Type 0 where
+  pub runnable : Runnable p
+  pub cells : length t ≤ maxCells
+  pub no-log : slot ≡ replicate slotWords 0
+  pub no-marks : marks ≡ replicate maxCells 0
 
 -- The bytes that name registers do.
 pub record Named (op a b c : ℕ) : Type 0 where

@@ -2,13 +2,13 @@
 ghost use mathlib.Core.Path.{_≡_};
 ghost use Prim.Native.Nat.{_+_, _*_, _<_, _≤_};
 ghost use lib.Dec.{ltb, eqb};
-ghost use lib.ListN.{length, replicate};
+ghost use lib.ListN.{length};
 ghost use Rattle.image.specs.Limits.{registers, maxCells, maxInstructions};
 ghost use Rattle.slot.specs.States.{waiting};
 ghost use Rattle.slot.specs.Layout.{slotWords};
 ghost use Rattle.slot.specs.Log.{empty, layout, logOf};
-ghost use Rattle.machine.specs.Asks.{start, reg, written, passed, skipped, added, subtracted, fetch, put, askOf};
-ghost use Rattle.machine.specs.Runs.{stop, next, runOf, stateOfRun, detailOfRun, keeps, kept, turned, Named, Ready, Did, Runnable, RunSays};
+ghost use Rattle.machine.specs.Asks.{start, reg, written, passed, skipped, added, subtracted, askOf, opLoad, opStore};
+ghost use Rattle.machine.specs.Runs.{stop, next, runOf, stateOfRun, detailOfRun, keeps, kept, turned, Named, Ready, Did, Runnable, Begins, RunSays};
 
 // The eight registers and the place: the number of the instruction that is next.
 pub struct Machine {
@@ -166,7 +166,7 @@ impl Machine {
     // Register a gets cell number r[b]: the value that the run has stored there, or the table's, which is then a read.
     fn load(self, a: u8, b: u8, table: &[u32], slot: &mut [u32], marks: &slot::Marks) -> Turned
         requires { ⌜ Ready (now table) self (now slot) (now marks) × (a < registers) × (b < registers) ⌝ }
-        ensures { λ r. ⌜ Did (now (table .entry)) self (logOf (now (slot .entry))) (fetch a (reg self b)) r (now (slot .exit)) (now (marks .entry)) ⌝ }
+        ensures { λ r. ⌜ Did (now (table .entry)) self (logOf (now (slot .entry))) (opLoad self a b) r (now (slot .exit)) (now (marks .entry)) ⌝ }
     {
         let c = self.register(b);
         let i = c as usize;
@@ -184,7 +184,7 @@ impl Machine {
     // Cell number r[a] gets r[b].
     fn store(self, a: u8, b: u8, table: &[u32], slot: &mut [u32], marks: &mut slot::Marks) -> Turned
         requires { ⌜ Ready (now table) self (now slot) (now marks) × (a < registers) × (b < registers) ⌝ }
-        ensures { λ r. ⌜ Did (now (table .entry)) self (logOf (now (slot .entry))) (put (reg self a) (reg self b)) r (now (slot .exit)) (now (marks .exit)) ⌝ }
+        ensures { λ r. ⌜ Did (now (table .entry)) self (logOf (now (slot .entry))) (opStore self a b) r (now (slot .exit)) (now (marks .exit)) ⌝ }
     {
         let c = self.register(a);
         let i = c as usize;
@@ -226,7 +226,7 @@ impl Machine {
 
 // The turns of a run, from an empty log. Every turn goes forward; arriving at m is an end.
 fn take_turns(program: &[u8], table: &[u32], slot: &mut [u32], marks: &mut slot::Marks) -> Run
-    requires { ⌜ Runnable (now program) × (length (now table) ≤ maxCells) × (now slot ≡ replicate slotWords 0) × (now marks ≡ replicate maxCells 0) ⌝ }
+    requires { ⌜ Begins (now program) (now table) (now slot) (now marks) ⌝ }
     ensures { λ r. ⌜ r ≡ runOf (now (program .entry)) (now (table .entry)) .answer ⌝ }
     ensures { λ _. ⌜ now (slot .exit) ≡ layout waiting 0 (runOf (now (program .entry)) (now (table .entry)) .log) ⌝ }
 {

@@ -18,7 +18,7 @@ use Rattle.area.proofs.Checks.{open-shows}
 use Rattle.steps.specs.Opening.{cleared, openArea}
 use Rattle.promises.specs.Paper.{Batch, batchOf}
 use Rattle.promises.specs.Laid.{World, markOn, slotOn, slotsTo, areaOn, tableOn, worldOn}
-use Rattle.promises.specs.History.{Step, gather, settle, after, played, opening, worldAfter}
+use Rattle.promises.specs.History.{Step, gather, settle, afterStep, played, opening, worldAfter}
 use Rattle.promises.proofs.Sets.{nobody}
 use Rattle.promises.proofs.Installing.{table-opening}
 use Rattle.promises.proofs.Stepping.{Opens, opens, Phased, gather-on, settle-table-on, settle-area-on}
@@ -66,8 +66,8 @@ worldAt image t p = worldOn image t (p .gathered) (p .settled)
 
 module _ (image t : List ℕ) (o : Opens image t) where
   after-on : (s : Step) (p : Progress) → Phased (countOf image) (p .gathered) (p .settled)
-      → after image s (worldAt image t p) ≡ worldAt image t (moved (countOf image) s p)
-  unfolding after
+      → afterStep image s (worldAt image t p) ≡ worldAt image t (moved (countOf image) s p)
+  unfolding afterStep
   after-on (gather k) p f =
       ap (λ (x : List ℕ). record { table = tableOn (batchOf image t) (p .settled) t; area = x }) (gather-on image t o (p .gathered) (p .settled) k f)
   after-on (settle k) p f =

@@ -20,13 +20,13 @@ pub data Step : Type 0 where
   settle : ℕ → Step
 
 -- what the call leaves: of gathering the table stays, which it is lent to read
-unfoldable pub after : List ℕ → Step → World → World
-after image (gather k) w = record { table = w .table; area = gatherArea image (w .table) (w .area) k }
-after image (settle k) w = record { table = settleTable image (w .table) (w .area) k; area = settleArea image (w .table) (w .area) k }
+unfoldable pub afterStep : List ℕ → Step → World → World
+afterStep image (gather k) w = record { table = w .table; area = gatherArea image (w .table) (w .area) k }
+afterStep image (settle k) w = record { table = settleTable image (w .table) (w .area) k; area = settleArea image (w .table) (w .area) k }
 
 unfoldable pub played : List ℕ → List Step → World → World
 played image [] w = w
-played image (s ∷ h) w = played image h (after image s w)
+played image (s ∷ h) w = played image h (afterStep image s w)
 
 -- a batch opened on the table t in the area a, and a history of it
 unfoldable pub opening : (image t a : List ℕ) → World

@@ -11,7 +11,7 @@ use Rattle.image.specs.Refusals.{check, after, unless}
 use Rattle.image.specs.Image.{countOf, secondRule}
 use Rattle.slot.specs.States.{canSettle}
 use Rattle.area.specs.Layout.{stateOf, withState}
-use Rattle.area.specs.Marks.{waw, raw, war, committed}
+use Rattle.area.specs.Marks.{waw, raw, war, committedTable}
 use Rattle.area.specs.Checks.{noneWaits}
 use Rattle.steps.specs.declared.Reason.the-variants.{Waw, Raw, RawWithWar}
 use Rattle.steps.specs.declared.Settled.{Settled}
@@ -45,7 +45,7 @@ verdict image T k a = decided (secondRule image) (waw T k a) (raw T k a) (war T 
 -- "A committed program's stores go into the table at its settling, in the slot's order."
 unfoldable pub settledTable : Settled → ℕ → List ℕ → List ℕ → List ℕ
 settledTable (Refused r) k a t = t
-settledTable Committed k a t = committed (length t) k a t
+settledTable Committed k a t = committedTable (length t) k a t
 settledTable (Carried reason) k a t = t
 
 -- its state and detail are the decision's; "Marks and slots of carried programs stay."

@@ -16,7 +16,7 @@ take-turns-requires : tie.Need-take-turns-requires
 take-turns-requires c κs =
     let d = c .before .before .before .before in
     let s = start-of d in
-    (s .pre .0, s .pre .1, d .clear .ensures ∙ ap (λ (k : ℕ). replicate k 0) (s .pre .2), refl)
+    record { runnable = s .pre .0; cells = s .pre .1; no-log = d .clear .ensures ∙ ap (λ (k : ℕ). replicate k 0) (s .pre .2); no-marks = refl }
 
 finish-requires : tie.Need-finish-requires
 finish-requires c κs =

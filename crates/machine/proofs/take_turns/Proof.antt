@@ -27,15 +27,15 @@ turning d = d .before .before .before .before .before .before .before .before
 loop-holds : tie.Need-loop-holds Inv-loop μ-loop
 loop-holds c =
     let s = c .before .before .before .before in
-    (refl, going-start (s .args .program .now) (s .args .table .now) (s .pre .0) _ _ _ (c .new .ensures) (s .pre .2) (s .pre .3))
+    (refl, going-start (s .args .program .now) (s .args .table .now) (s .pre .runnable) _ _ _ (c .new .ensures) (s .pre .no-log) (s .pre .no-marks))
 
 step-requires : tie.Need-step-requires Inv-loop μ-loop
 step-requires c κs =
     let i = c .before .before .before .before .before .before .before in
     let s = start-of i in
     let l = i .before .before .loop in (
-      going-ready (s .pre .0) (l .inv .1) (s .pre .1) (i .if1 .taken),
-      instruction-named (s .args .program .now) (s .pre .0 .good) (l .machine .place) (i .if1 .taken),
+      going-ready (s .pre .runnable) (l .inv .1) (s .pre .cells) (i .if1 .taken),
+      instruction-named (s .args .program .now) (s .pre .runnable .good) (l .machine .place) (i .if1 .taken),
     )
 
 same-length : tie.Need-same-length Inv-loop μ-loop
@@ -43,13 +43,13 @@ same-length c =
     let d = c .before .before .before .before .before .before in
     let i = turning d in
     let s = start-of i in
-    d .step .kept .1 .1 .1 .1 .1 .1 .0 ∙ (going-words (s .pre .0) (i .before .before .loop .inv .1) ∙ sym (ap length (s .pre .2)))
+    d .step .kept .1 .1 .1 .1 .1 .1 .0 ∙ (going-words (s .pre .runnable) (i .before .before .loop .inv .1) ∙ sym (ap length (s .pre .no-log)))
 
 returns : tie.Need-returns Inv-loop μ-loop
 returns c =
     let d = c .before .before .before .before .before .before in
     let i = turning d in
-    going-stop (start-of i .pre .0) (i .before .before .loop .inv .1) _ _ _ (i .if1 .taken) (d .step .ensures) _ (c .before .turn .given .1)
+    going-stop (start-of i .pre .runnable) (i .before .before .loop .inv .1) _ _ _ (i .if1 .taken) (d .step .ensures) _ (c .before .turn .given .1)
 
 loop-less : tie.Need-loop-less Inv-loop μ-loop
 loop-less c =
@@ -58,25 +58,25 @@ loop-less c =
     omega (
       arith,
       i .if1 .taken,
-      going-forward (start-of i .pre .0) (i .before .before .loop .inv .1) _ _ _ (i .if1 .taken) (d .step .ensures) (c .enum-told .given .1),
+      going-forward (start-of i .pre .runnable) (i .before .before .loop .inv .1) _ _ _ (i .if1 .taken) (d .step .ensures) (c .enum-told .given .1),
     )
 
 loop-again : tie.Need-loop-again Inv-loop μ-loop
 loop-again c =
     let d = c .before .before .before .before .before in
     let i = turning d in
-    (refl, going-next (start-of i .pre .0) (i .before .before .loop .inv .1) _ _ _ (i .if1 .taken) (d .step .ensures) (c .enum-told .given .1))
+    (refl, going-next (start-of i .pre .runnable) (i .before .before .loop .inv .1) _ _ _ (i .if1 .taken) (d .step .ensures) (c .enum-told .given .1))
 
 same-length-2 : tie.Need-same-length-2 Inv-loop μ-loop
 same-length-2 c =
     let l = c .before .before in
     let s = l .before .before .before .before .before in
-    going-words (s .pre .0) (l .loop .inv .1) ∙ sym (ap length (s .pre .2))
+    going-words (s .pre .runnable) (l .loop .inv .1) ∙ sym (ap length (s .pre .no-log))
 
 returns-2 : tie.Need-returns-2 Inv-loop μ-loop
 returns-2 c =
     let l = c .before .before in
-    going-end (l .before .before .before .before .before .pre .0) (l .loop .inv .1) (c .if1 .left)
+    going-end (l .before .before .before .before .before .pre .runnable) (l .loop .inv .1) (c .if1 .left)
 
 pub take-turns-spec : {M : Type 1} → statement M
 take-turns-spec =
