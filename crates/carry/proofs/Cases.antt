@@ -98,8 +98,8 @@ rules = refl
 abbrev detailed : ℕ → List ℕ
 detailed detail = 0 ∷ 0 ∷ joined (map (λ s. layout s detail empty) (5 ∷ 4 ∷ 5 ∷ []))
 
-details : map (λ d. called batch (5 ∷ []) (detailed d) (image 0 []) (nines 18)) (0 ∷ 1 ∷ 3 ∷ 4294967295 ∷ [])
-    ≡ replicate 4 (done 18 (image 0 (one ∷ three ∷ [])))
+details : map (λ d. called batch (5 ∷ []) (detailed d) (image 0 []) (nines 20)) (0 ∷ 1 ∷ 3 ∷ 4294967295 ∷ [])
+    ≡ replicate 4 (done 18 (image 0 (one ∷ three ∷ []) ++ nines 2))
 unfolding opened
 details = refl
 
@@ -125,13 +125,13 @@ abbrev programs : ℕ → List (List ℕ)
 programs k = replicate k []
 
 abbrev many : (states : List ℕ) → ℕ → Counted × List ℕ
-many states k = called batch (5 ∷ []) (area states) (image 1 (programs k)) (nines 146)
+many states k = called batch (5 ∷ []) (area states) (image 1 (programs k)) (nines 150)
 
 many-64-65 : many (5 ∷ 5 ∷ 4 ∷ []) 62 ∷ many (5 ∷ 5 ∷ 4 ∷ []) 63 ∷ many (4 ∷ 4 ∷ 4 ∷ []) 64 ∷ many (4 ∷ 4 ∷ 5 ∷ []) 64 ∷ []
-    ≡ done 146 (image 1 (one ∷ two ∷ programs 62))
-    ∷ refused 11 (nines 146)
-    ∷ done 134 (image 1 (programs 64) ++ nines 12)
-    ∷ refused 11 (nines 146)
+    ≡ done 146 (image 1 (one ∷ two ∷ programs 62) ++ nines 4)
+    ∷ refused 11 (nines 150)
+    ∷ done 134 (image 1 (programs 64) ++ nines 16)
+    ∷ refused 11 (nines 150)
     ∷ []
 unfolding opened
 many-64-65 = refl
