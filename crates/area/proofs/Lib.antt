@@ -4,3 +4,5 @@ pub mod Checks
 pub mod Keeps
 pub mod Loops
 pub mod Places
+pub mod Cases
+pub mod CheckCases
