@@ -4,7 +4,7 @@ use Prim.Native.Nat.{ℕ, zero, suc}
 use mathlib.Core.Bool.{Bool, true, false}
 use mathlib.Core.Path.{_≡_, refl}
 use mathlib.Core.List.{List, [], _∷_, _++_, map}
-use lib.ListN.{length, replicate}
+use lib.ListN.{replicate}
 use Rattle.slot.specs.declared.ListKind.the-variants.{Reads, Stores}
 use Rattle.slot.specs.declared.Group.the-variants.{Committed, Carried}
 use Rattle.area.specs.declared.MarkKind.the-variants.{Write, Read}

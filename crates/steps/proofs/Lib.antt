@@ -5,3 +5,6 @@ pub mod Keeps
 pub mod Says
 pub mod Answers
 pub mod Unique
+pub mod Cases
+pub mod SettleCases
+pub mod RefusedCases

@@ -1,0 +1,103 @@
+-- Document 01, "What each refusal says", tried by computation on opening, gathering and settling: the row order with check 8 and 9, and "A refusal
+-- returns its number, 0 for every other result, and changes no lent memory." Assumes nothing.
+use Prim.Native.Nat.{ℕ}
+use mathlib.Core.Path.{_≡_, refl}
+use mathlib.Core.List.{List, [], _∷_, _++_, map}
+use lib.ListN.{take, replicate}
+use Rattle.image.specs.Refusals.{refusing}
+use Rattle.image.specs.Assembler.{instruction, program, image}
+use Rattle.area.specs.Checks.{openRefusal}
+use Rattle.area.specs.Sketch.{slot, area}
+use Rattle.steps.specs.declared.Gathered.the-variants as gathering
+use Rattle.steps.specs.declared.Settled.the-variants as settling
+use Rattle.steps.specs.Answers.{Numbers, numbersOfGathered, numbersOfSettled}
+use Rattle.steps.specs.Opening.{openArea}
+use Rattle.steps.specs.Gathering.{gatherAnswer, gatherArea}
+use Rattle.steps.specs.Settling.{settleAnswer, settleTable, settleArea}
+use Rattle.steps.specs.Opened.{opened}
+
+-- ---- how a case is written
+
+abbrev two : List ℕ
+two = image 0 ([] ∷ [] ∷ [])
+
+-- an area of one cell whose marks are this, and two programs in these states
+abbrev states : ℕ → ℕ → ℕ → List ℕ
+states mark first second = area (mark ∷ []) (mark ∷ []) (slot first 0 [] [] [] ∷ slot second 0 [] [] [] ∷ [])
+
+-- The three numbers of an answer.
+abbrev three : ℕ → ℕ → ℕ → Numbers
+three refusal state detail = record { refusal = refusal; state = state; detail = detail }
+
+abbrev gathers : List ℕ → List ℕ → List ℕ → ℕ → Numbers
+gathers i t a k = numbersOfGathered (gatherAnswer i t a k)
+
+abbrev settles : List ℕ → List ℕ → List ℕ → ℕ → Numbers
+settles i t a k = numbersOfSettled (settleAnswer i t a k)
+
+-- ---- the row order
+
+-- Inputs that break two neighbours each. 1, 2: rule 3 in 5 bytes. 2, 3: rule 3 and a byte too many. 3, 4: a byte too many after operation 9.
+-- 4, 5: operation 9 and no cells. 5, 6: no cells and a word too many. 6, 7: a word too many and marks over n. 7, 8: marks over n and number n.
+-- 8, 9: number n where some state is 0. 9: state 1 beside state 0.
+abbrev broken : {A : Type 0} → ((i t a : List ℕ) → (k : ℕ) → A) → List A
+broken f =
+    let bad : List ℕ = image 0 (program (instruction 9 0 0 0 ∷ []) ∷ []) in
+    f (take 5 (image 3 [])) (5 ∷ []) (7 ∷ 7 ∷ []) 0
+    ∷ f (image 3 [] ++ (0 ∷ [])) (5 ∷ []) (7 ∷ 7 ∷ []) 0
+    ∷ f (bad ++ (0 ∷ [])) (5 ∷ []) (7 ∷ 7 ∷ []) 0
+    ∷ f bad [] (replicate 100 7) 0
+    ∷ f two [] (replicate 201 7) 0
+    ∷ f two (5 ∷ []) (replicate 203 7) 0
+    ∷ f two (5 ∷ []) (states 3 0 0) 2
+    ∷ f two (5 ∷ []) (states 1 0 0) 2
+    ∷ f two (5 ∷ []) (states 2 1 0) 0
+    ∷ []
+
+-- the last three are nothing to opening, which knows neither marks, nor numbers, nor states
+opening : broken (λ i t a k. openRefusal i t a) ≡ map refusing (1 ∷ 2 ∷ 3 ∷ 4 ∷ 5 ∷ 6 ∷ 0 ∷ 0 ∷ 0 ∷ [])
+unfolding opened
+opening = refl
+
+gathering-answers : broken gatherAnswer ≡ map (λ n. gathering.Refused (refusing n)) (1 ∷ 2 ∷ 3 ∷ 4 ∷ 5 ∷ 6 ∷ 7 ∷ 8 ∷ 9 ∷ [])
+unfolding opened
+gathering-answers = refl
+
+settling-answers : broken settleAnswer ≡ map (λ n. settling.Refused (refusing n)) (1 ∷ 2 ∷ 3 ∷ 4 ∷ 5 ∷ 6 ∷ 7 ∷ 8 ∷ 9 ∷ [])
+unfolding opened
+settling-answers = refl
+
+-- ---- "A refusal returns its number, 0 for every other result, and changes no lent memory."
+
+numbers-of-refusals : (broken gathers ≡ map (λ n. three n 0 0) (1 ∷ 2 ∷ 3 ∷ 4 ∷ 5 ∷ 6 ∷ 7 ∷ 8 ∷ 9 ∷ []))
+    × (broken settles ≡ map (λ n. three n 0 0) (1 ∷ 2 ∷ 3 ∷ 4 ∷ 5 ∷ 6 ∷ 7 ∷ 8 ∷ 9 ∷ []))
+unfolding opened
+numbers-of-refusals = (refl, refl)
+
+nothing-changed : (take 6 (broken (λ i t a k. openArea i t a)) ≡ take 6 (broken (λ i t a k. a)))
+    × (broken gatherArea ≡ broken (λ i t a k. a))
+    × (broken settleTable ≡ broken (λ i t a k. t))
+    × (broken settleArea ≡ broken (λ i t a k. a))
+unfolding opened
+nothing-changed = (refl, refl, refl, refl)
+
+-- ---- 8, "program number n or more"
+
+number-n : (map (gathers two (5 ∷ []) (states 0 0 0)) (0 ∷ 1 ∷ 2 ∷ 3 ∷ 4294967296 ∷ []) ≡ three 0 1 0 ∷ three 0 1 0 ∷ replicate 3 (three 8 0 0))
+    × (map (settles two (5 ∷ []) (states 0 1 1)) (0 ∷ 1 ∷ 2 ∷ 3 ∷ 4294967296 ∷ []) ≡ three 0 4 0 ∷ three 0 4 0 ∷ replicate 3 (three 8 0 0))
+unfolding opened
+number-n = (refl, refl)
+
+-- ---- 9, "gathering: state not 0. Settling: some state 0, or this one's not 1."
+
+-- gathering program 1 in each state; and with program 0 in each state, which does not matter
+gathering-states : (map (λ s. gathers two (5 ∷ []) (states 0 0 s) 1) (0 ∷ 1 ∷ 2 ∷ 3 ∷ 4 ∷ 5 ∷ []) ≡ three 0 1 0 ∷ replicate 5 (three 9 0 0))
+    × (map (λ s. gathers two (5 ∷ []) (states 0 s 0) 1) (0 ∷ 1 ∷ 2 ∷ 3 ∷ 4 ∷ 5 ∷ []) ≡ replicate 6 (three 0 1 0))
+unfolding opened
+gathering-states = (refl, refl)
+
+-- settling program 1 likewise, the other one being gathered, or in each state
+settling-states : (map (λ s. settles two (5 ∷ []) (states 0 1 s) 1) (0 ∷ 1 ∷ 2 ∷ 3 ∷ 4 ∷ 5 ∷ []) ≡ three 9 0 0 ∷ three 0 4 0 ∷ replicate 4 (three 9 0 0))
+    × (map (λ s. settles two (5 ∷ []) (states 0 s 1) 1) (0 ∷ 1 ∷ 2 ∷ 3 ∷ 4 ∷ 5 ∷ []) ≡ three 9 0 0 ∷ replicate 5 (three 0 4 0))
+unfolding opened
+settling-states = (refl, refl)
