@@ -1,3 +1,6 @@
+pub mod Cases
+pub mod SettleCases
+pub mod RefusedCases
 pub mod Refusals
 pub mod Slots
 pub mod Views
@@ -5,6 +8,3 @@ pub mod Keeps
 pub mod Says
 pub mod Answers
 pub mod Unique
-pub mod Cases
-pub mod SettleCases
-pub mod RefusedCases
