@@ -10,7 +10,7 @@ use Rattle.slot.specs.declared.Group.the-variants.{Committed, Carried}
 use Rattle.area.specs.declared.MarkKind.the-variants.{Write, Read}
 use Rattle.area.specs.Layout.{marksAt, firstSlot, slotStart, areaWords, stateAt, detailAt, countAt, listAt, valuesAt}
 use Rattle.area.specs.Layout.{stateOf, detailOf, slotAt, inGroup, spanOf, readsOf, storesOf, valuesOf, withSlot, withState}
-use Rattle.area.specs.Marks.{markOf, listFor, lower, reserve, earlier, hit, waw, raw, war, storeAll, committed}
+use Rattle.area.specs.Marks.{markOf, listFor, lower, reserve, earlier, hit, waw, raw, war, storeAll, committedTable}
 use Rattle.area.specs.Sketch.{slot, area}
 use Rattle.area.specs.Opened.{opened}
 
@@ -156,6 +156,6 @@ unfolding opened
 stores-in-order = refl
 
 -- of its own slot, by the stored cells and not by the places
-stores-of-three : map (λ k. committed 3 k three (7 ∷ 8 ∷ 9 ∷ [])) (0 ∷ 2 ∷ []) ≡ (50 ∷ 8 ∷ 9 ∷ []) ∷ (70 ∷ 71 ∷ 72 ∷ []) ∷ []
+stores-of-three : map (λ k. committedTable 3 k three (7 ∷ 8 ∷ 9 ∷ [])) (0 ∷ 2 ∷ []) ≡ (50 ∷ 8 ∷ 9 ∷ []) ∷ (70 ∷ 71 ∷ 72 ∷ []) ∷ []
 unfolding opened
 stores-of-three = refl
