@@ -4,6 +4,7 @@ pub mod Masks
 pub mod Orders
 pub mod Picks
 pub mod Readers
+pub mod RefusalCases
 pub mod Rising
 pub mod Taken
 pub mod Turns
