@@ -1,8 +1,8 @@
-pub mod Cases
-pub mod CheckCases
 pub mod Views
 pub mod Changes
 pub mod Checks
 pub mod Keeps
 pub mod Loops
 pub mod Places
+pub mod Cases
+pub mod CheckCases

@@ -4,14 +4,15 @@ use Prim.Native.Nat.{ℕ}
 use mathlib.Core.Path.{_≡_, refl}
 use mathlib.Core.List.{List, [], _∷_, map}
 use lib.ListN.{replicate}
+use Rattle.image.specs.Refusals.{refusing}
 use Rattle.image.specs.Assembler.{Instruction, set, load, store, reject, program, image}
 use Rattle.image.specs.Bench.{x, y, copy, example-1, example-2}
 use Rattle.machine.specs.declared.Run.the-variants.{Finished, Rejected, Faulted}
 use Rattle.area.specs.Sketch.{slot, area}
 use Rattle.steps.specs.declared.Gathered.the-variants.{Ran}
 use Rattle.steps.specs.Answers.{doneWith, numbersOfGathered}
-use Rattle.steps.specs.Opening.{openArea}
-use Rattle.steps.specs.Gathering.{gatherAnswer, gatherArea}
+use Rattle.steps.specs.Opening.{openArea, OpenSays}
+use Rattle.steps.specs.Gathering.{gatherAnswer, gatherArea, GatherSays}
 use Rattle.steps.specs.Opened.{opened}
 
 abbrev zeros : ℕ → List ℕ
@@ -28,6 +29,11 @@ gatherEach i t a (k ∷ ks) = gatherEach i t (gatherArea i t a k) ks
 whole-area : openArea (image 0 []) (5 ∷ []) (7 ∷ 7 ∷ []) ∷ openArea (example-2 1) (1 ∷ 2 ∷ 3 ∷ []) (replicate 306 7) ∷ [] ≡ zeros 2 ∷ zeros 306 ∷ []
 unfolding opened
 whole-area = refl
+
+-- what the call's contract says of it
+opening-says : OpenSays (example-2 1) (1 ∷ 2 ∷ 3 ∷ []) (replicate 306 7) (refusing 0) (zeros 306)
+unfolding opened
+opening-says = record { answer = refl; area = refl }
 
 -- ---- "Gathering runs one waiting program on the table lent to it (its opening table)"
 
@@ -115,3 +121,9 @@ numbers = refl
 
 done-is-0 : doneWith 3 516 ≡ record { refusal = 0; state = 3; detail = 516 }
 done-is-0 = refl
+
+-- what the call's contract says of all this
+gathering-says : GatherSays (image 1 (copy x y ∷ [])) (7 ∷ 5 ∷ []) (zeros 104) 0 (Ran Finished)
+    (area (0 ∷ 1 ∷ []) (1 ∷ 0 ∷ []) (slot 1 0 (0 ∷ []) (1 ∷ []) (7 ∷ []) ∷ []))
+unfolding opened
+gathering-says = record { answer = refl; area = refl }

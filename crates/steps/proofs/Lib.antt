@@ -1,6 +1,3 @@
-pub mod Cases
-pub mod SettleCases
-pub mod RefusedCases
 pub mod Refusals
 pub mod Slots
 pub mod Views
@@ -8,3 +5,6 @@ pub mod Keeps
 pub mod Says
 pub mod Answers
 pub mod Unique
+pub mod Cases
+pub mod SettleCases
+pub mod RefusedCases

@@ -11,9 +11,9 @@ use Rattle.area.specs.Sketch.{slot, area}
 use Rattle.steps.specs.declared.Gathered.the-variants as gathering
 use Rattle.steps.specs.declared.Settled.the-variants as settling
 use Rattle.steps.specs.Answers.{Numbers, numbersOfGathered, numbersOfSettled}
-use Rattle.steps.specs.Opening.{openArea}
-use Rattle.steps.specs.Gathering.{gatherAnswer, gatherArea}
-use Rattle.steps.specs.Settling.{settleAnswer, settleTable, settleArea}
+use Rattle.steps.specs.Opening.{openArea, OpenSays}
+use Rattle.steps.specs.Gathering.{gatherAnswer, gatherArea, GatherSays}
+use Rattle.steps.specs.Settling.{settleAnswer, settleTable, settleArea, SettleSays}
 use Rattle.steps.specs.Opened.{opened}
 
 -- ---- how a case is written
@@ -80,6 +80,13 @@ nothing-changed : (take 6 (broken (λ i t a k. openArea i t a)) ≡ take 6 (brok
     × (broken settleArea ≡ broken (λ i t a k. a))
 unfolding opened
 nothing-changed = (refl, refl, refl, refl)
+
+-- what the calls' contracts say of a refusal
+refused-says : OpenSays two [] (7 ∷ 7 ∷ []) (refusing 5) (7 ∷ 7 ∷ [])
+    × GatherSays two [] (7 ∷ 7 ∷ []) 0 (gathering.Refused (refusing 5)) (7 ∷ 7 ∷ [])
+    × SettleSays two (5 ∷ []) (7 ∷ 7 ∷ []) 0 (settling.Refused (refusing 6)) (5 ∷ []) (7 ∷ 7 ∷ [])
+unfolding opened
+refused-says = (record { answer = refl; area = refl }, record { answer = refl; area = refl }, record { answer = refl; table = refl; area = refl })
 
 -- ---- 8, "program number n or more"
 

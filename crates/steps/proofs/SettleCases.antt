@@ -11,7 +11,7 @@ use Rattle.steps.specs.declared.Reason.the-variants.{Waw, Raw, RawWithWa
 use Rattle.steps.specs.declared.Settled.{Settled}
 use Rattle.steps.specs.declared.Settled.the-variants.{Committed, Carried}
 use Rattle.steps.specs.Answers.{doneWith, numbersOfSettled}
-use Rattle.steps.specs.Settling.{settleAnswer, settleTable, settleArea}
+use Rattle.steps.specs.Settling.{settleAnswer, settleTable, settleArea, SettleSays}
 use Rattle.steps.specs.Opened.{opened}
 
 -- ---- how a case is written
@@ -128,3 +128,8 @@ one-program-last : (settleArea (example-1 2) (10 ∷ 4 ∷ []) (example-1-in 4 1
     × (settleTable (example-1 2) (10 ∷ 4 ∷ []) (example-1-in 4 1 5 1) 1 ≡ 10 ∷ 5 ∷ [])
 unfolding opened
 one-program-last = (refl, refl)
+
+-- what the call's contract says of all this
+settling-says : SettleSays (example-1 2) (9 ∷ 4 ∷ []) (example-1-in 1 1 1 0) 1 Committed (9 ∷ 5 ∷ []) (example-1-in 1 4 1 0)
+unfolding opened
+settling-says = record { answer = refl; table = refl; area = refl }
