@@ -1,5 +1,4 @@
 // The numbers of what gathering and settling answer: document 01, "What each refusal says".
-ghost use Rattle.machine.specs.Runs.{stateOfRun, detailOfRun};
 ghost use Rattle.steps.specs.Answers.{doneWith, refusedBy, numbersOfGathered, numbersOfSettled};
 ghost use Rattle.numbers.specs.Numbers.{Tells};
 
@@ -12,7 +11,7 @@ pub struct StepNumbers {
 }
 
 fn refused(refusal: image::Refusal) -> StepNumbers
-    ensures { λ r. ⌜ Tells (refusedBy (refusal .number)) r ⌝ }
+    ensures { λ r. ⌜ Tells (refusedBy refusal) r ⌝ }
 {
     StepNumbers {
         refusal: refusal.number,
@@ -31,25 +30,13 @@ fn done(state: u32, detail: u32) -> StepNumbers
     }
 }
 
-fn of_run(run: machine::Run) -> StepNumbers
-    ensures { λ r. ⌜ Tells (doneWith (stateOfRun run) (detailOfRun run)) r ⌝ }
-{
-    match run {
-        machine::Run::Finished => done(slot::GATHERED, 0),
-        machine::Run::Rejected(code) => done(slot::REJECTED, code as u32),
-        machine::Run::Faulted { kind, at } => {
-            done(slot::FAULTED, 256 * (kind as u32) + (at as u32))
-        }
-    }
-}
-
 // Of gathering.
 pub fn of_gathered(answer: steps::Gathered) -> StepNumbers
     ensures { λ r. ⌜ Tells (numbersOfGathered answer) r ⌝ }
 {
     match answer {
         steps::Gathered::Refused(refusal) => refused(refusal),
-        steps::Gathered::Ran(run) => of_run(run),
+        steps::Gathered::Ran(run) => done(machine::state_of(run), machine::detail_of(run)),
     }
 }
 
@@ -59,7 +46,7 @@ pub fn of_settled(answer: steps::Settled) -> StepNumbers
 {
     match answer {
         steps::Settled::Refused(refusal) => refused(refusal),
-        steps::Settled::Committed => done(slot::COMMITTED, 0),
-        steps::Settled::Carried(reason) => done(slot::CARRIED, steps::reason_number(reason)),
+        steps::Settled::Committed => done(steps::state_of(answer), steps::detail_of(answer)),
+        steps::Settled::Carried(_) => done(steps::state_of(answer), steps::detail_of(answer)),
     }
 }
