@@ -1,18 +1,21 @@
 -- What the Rattle call says is what the call for C tells, and the counts fit 32 bits. Assumes nothing.
-use Prim.Native.Nat.{ℕ, zero, suc, _≤_, _<_, _^_}
-use mathlib.Core.Path.{_≡_, refl, sym, subst}
+use Prim.Native.Nat.{ℕ, _≤_, _<_, _^_}
+use mathlib.Core.Path.{_≡_, sym, subst}
 use mathlib.Core.List.{List}
 use native.Mathlib.Omega.{arith}
 use lib.ListN.{length}
 use lib.Dec.{leb}
-use borrow.Author.Tests.{leb-true}
-use Rattle.base.specs.Words.{unless}
+use borrow.Author.Tests.{leb-true, eqb-true}
+use Rattle.base.specs.Words.{count}
 use Rattle.base.proofs.Bools.{and-right}
 use Rattle.base.proofs.Counts.{count-le}
 use Rattle.image.specs.Limits.{minBytes, maxBytes}
-use Rattle.image.specs.Refusals.{refusing}
+use Rattle.image.specs.Refusals as refusal
 use Rattle.image.specs.Image.{countOf, sizeGood}
 use Rattle.image.proofs.Laws.{accepted}
+use Rattle.image.proofs.Refusing.{none-fails, none-after, unless-either}
+use Rattle.slot.specs.declared.Group.the-variants.{Committed}
+use Rattle.area.specs.Layout.{inGroup}
 use Rattle.steps.specs.declared.Gathered.{Gathered}
 use Rattle.steps.specs.declared.Settled.{Settled}
 use Rattle.steps.specs.Answers.{numbersOfGathered, numbersOfSettled}
@@ -20,8 +23,8 @@ use Rattle.steps.specs.Gathering.{GatherSays}
 use Rattle.steps.specs.Settling.{SettleSays}
 use Rattle.listing.specs.declared.Listed.{Listed}
 use Rattle.listing.specs.declared.Listed.the-variants as listing
-use Rattle.listing.specs.Listing.{isCommitted, committedCount, orderOf, orderRefusal, orderAnswer, numbersOfListed, OrderSays}
-use Rattle.listing.proofs.Orders.{list-shows, order-shows, order-count}
+use Rattle.listing.specs.Listing.{committedCount, orderOf, orderExists, listRefusal, orderRefusal, orderAnswer, numbersOfListed, OrderSays}
+use Rattle.listing.proofs.Orders.{list-shows}
 use Rattle.carry.specs.declared.Next.{Next}
 use Rattle.carry.specs.declared.Next.the-variants as carrying
 use Rattle.carry.specs.Next.{nextImage, nextRefusal, nextAnswer, numbersOfNext, NextSays}
@@ -55,24 +58,21 @@ next-tells image t a fresh out answer out′ r says tells =
 
 -- ---- the counts are small: an order has at most 64 entries, an image at most 8326 bytes
 
-few-listed : (image t a list : List ℕ) → orderRefusal image t a list ≡ 0 → length (orderOf (length t) (countOf image) a) < 2 ^ 32
-unfolding committedCount
+few-listed : (image t a list : List ℕ) → orderRefusal image t a list .number ≡ 0 → length (orderOf (length t) (countOf image) a) < 2 ^ 32
+unfolding orderRefusal orderExists committedCount
 few-listed image t a list e =
-    let checked = list-shows image t a list (order-shows image t a list e .0) .0 in
-    omega (arith, order-count image t a list e, count-le (isCommitted (length t) a) (countOf image), checked .programs)
+    let w = none-after (listRefusal image t a list) _ e in
+    let full = eqb-true (length (orderOf (length t) (countOf image) a)) (count (inGroup Committed (length t) a) (countOf image)) (none-fails (orderExists (length t) (countOf image) a) refusal.noOrder _ (λ z. omega arith) (w .1) .0) in
+    omega (arith, full, count-le (inGroup Committed (length t) a) (countOf image), list-shows image t a list (w .0) .0 .programs)
 
 pub order-small : (image t a list : List ℕ) (answer : Listed) (list′ : List ℕ) → OrderSays image t a list answer list′
     → numbersOfListed answer .count < 2 ^ 32
 unfolding orderAnswer
 order-small image t a list answer list′ says =
-    subst (λ (x : Listed). numbersOfListed x .count < 2 ^ 32) (sym (says .answer)) (go (orderRefusal image t a list) refl)
-  where
-    go : (r : ℕ) → orderRefusal image t a list ≡ r
-        → numbersOfListed (unless r (λ r. listing.Refused (refusing r)) (listing.Count (length (orderOf (length t) (countOf image) a)))) .count < 2 ^ 32
-    go zero e = few-listed image t a list e
-    go (suc r) e = omega arith
+    subst (λ (x : Listed). numbersOfListed x .count < 2 ^ 32) (sym (says .answer))
+    (unless-either (λ x. numbersOfListed x .count < 2 ^ 32) (orderRefusal image t a list) listing.Refused _ (omega arith) (few-listed image t a list))
 
-short-next : (image t a fresh out : List ℕ) → nextRefusal image t a fresh out ≡ 0 → length (nextImage (length t) image a fresh) < 2 ^ 32
+short-next : (image t a fresh out : List ℕ) → nextRefusal image t a fresh out .number ≡ 0 → length (nextImage (length t) image a fresh) < 2 ^ 32
 unfolding sizeGood
 short-next image t a fresh out e =
     let i = nextImage (length t) image a fresh in
@@ -83,9 +83,5 @@ pub next-small : (image t a fresh out : List ℕ) (answer : Next) (out′ : List
     → numbersOfNext answer .count < 2 ^ 32
 unfolding nextAnswer
 next-small image t a fresh out answer out′ says =
-    subst (λ (x : Next). numbersOfNext x .count < 2 ^ 32) (sym (says .answer)) (go (nextRefusal image t a fresh out) refl)
-  where
-    go : (r : ℕ) → nextRefusal image t a fresh out ≡ r
-        → numbersOfNext (unless r (λ r. carrying.Refused (refusing r)) (carrying.Length (length (nextImage (length t) image a fresh)))) .count < 2 ^ 32
-    go zero e = short-next image t a fresh out e
-    go (suc r) e = omega arith
+    subst (λ (x : Next). numbersOfNext x .count < 2 ^ 32) (sym (says .answer))
+    (unless-either (λ x. numbersOfNext x .count < 2 ^ 32) (nextRefusal image t a fresh out) carrying.Refused _ (omega arith) (short-next image t a fresh out))

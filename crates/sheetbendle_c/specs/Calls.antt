@@ -4,8 +4,10 @@ use mathlib.Core.Path.{_≡_}
 use mathlib.Core.List.{List}
 use lib.ListN.{length}
 use Rattle.image.specs.Refusals.{Counted}
-use Rattle.image.specs.Image.{programOf, startOf}
+use Rattle.image.specs.Image.{programOf, startOf, programRefusalOf}
+use Rattle.area.specs.Checks.{openRefusal}
 use Rattle.steps.specs.Answers.{numbersOfGathered, numbersOfSettled}
+use Rattle.steps.specs.Opening.{openArea}
 use Rattle.steps.specs.Gathering.{gatherAnswer, gatherArea}
 use Rattle.steps.specs.Settling.{settleAnswer, settleTable, settleArea}
 use Rattle.listing.specs.Listing.{orderAnswer, orderList, numbersOfListed}
@@ -19,6 +21,14 @@ use Rattle.sheetbendle_c.specs.declared.CountNumbers.{CountNumbers}
 pub record PartTells (image : List ℕ) (k : ℕ) (r : PartNumbers) : Type 0 where
   pub start : r .start ≡ startOf image k
   pub extent : r .length ≡ length (programOf image k)
+
+-- of why there is none: the refusal's number, or 0
+pub record ProgramRefusalTells (image : List ℕ) (k : ℕ) (r : ℕ) : Type 0 where
+  pub number : r ≡ programRefusalOf image k .number
+
+pub record OpenTells (image t a : List ℕ) (r : ℕ) (a′ : List ℕ) : Type 0 where
+  pub number : r ≡ openRefusal image t a .number
+  pub area : a′ ≡ openArea image t a
 
 pub record CountTells (numbers : Counted) (r : CountNumbers) : Type 0 where
   pub refusal : r .refusal ≡ numbers .refusal

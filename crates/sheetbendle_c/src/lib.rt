@@ -1,10 +1,9 @@
 // The library for C: include/sheetbendle.h declares these functions. A slice is a pointer and a length there.
 ghost use Prim.Native.Nat.{_^_, _<_};
-ghost use Rattle.image.specs.Image.{ProgramRefusalSays};
-ghost use Rattle.steps.specs.Opening.{OpenSays};
 ghost use Rattle.listing.specs.Listing.{numbersOfListed};
 ghost use Rattle.carry.specs.Next.{numbersOfNext};
-ghost use Rattle.sheetbendle_c.specs.Calls.{PartTells, CountTells, GatherTells, SettleTells, OrderTells, NextTells};
+ghost use Rattle.sheetbendle_c.specs.Calls.{PartTells, ProgramRefusalTells, OpenTells, GatherTells, SettleTells};
+ghost use Rattle.sheetbendle_c.specs.Calls.{CountTells, OrderTells, NextTells};
 
 // Where a program's part of the image begins, and how long it is.
 #[repr(C)]
@@ -31,16 +30,16 @@ pub extern "C" fn sheetbendle_program(image: &[u8], number: usize) -> PartNumber
 
 #[no_mangle]
 pub extern "C" fn sheetbendle_program_refusal(image: &[u8], number: usize) -> u32
-    ensures { λ r. ⌜ ProgramRefusalSays (now (image .entry)) number r ⌝ }
+    ensures { λ r. ⌜ ProgramRefusalTells (now (image .entry)) number r ⌝ }
 {
-    image::program_refusal(image, number)
+    image::program_refusal(image, number).number
 }
 
 #[no_mangle]
 pub extern "C" fn sheetbendle_open(image: &[u8], table: &[u32], area: &mut [u32]) -> u32
-    ensures { λ r. ⌜ OpenSays (now (image .entry)) (now (table .entry)) (now (area .entry)) r (now (area .exit)) ⌝ }
+    ensures { λ r. ⌜ OpenTells (now (image .entry)) (now (table .entry)) (now (area .entry)) r (now (area .exit)) ⌝ }
 {
-    steps::open(image, table, area)
+    steps::open(image, table, area).number
 }
 
 #[no_mangle]
