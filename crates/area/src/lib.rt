@@ -34,6 +34,9 @@ pub fn slot_start(cells: usize, number: usize) -> usize
     2 * cells + slot::WORDS * number
 }
 
+// The same of the largest area: how many words it has.
+pub const AREA_WORDS: usize = 2 * image::Image::CELLS + slot::WORDS * image::Image::PROGRAMS;
+
 // How many words an area has.
 pub fn area_words(cells: u16, programs: u16) -> usize
     ensures { λ r. ⌜ r ≡ areaWords cells programs ⌝ }

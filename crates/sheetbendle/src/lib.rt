@@ -1,5 +1,5 @@
 // Sheetbendle runs one batch of small programs against a table of 32-bit cells, by the two phases of the Aria paper. A board lends the image (the
-// programs), the table, and a work area of 2T + 100n words for T cells and n programs, and makes these calls in this order:
+// programs), the table, and a work area of `area_words(T, n)` words for T cells and n programs, and makes these calls in this order:
 //
 //   open         clears the work area for this image and this table.
 //   gather       runs one program on the table and writes down what it reads and stores; once for each program, in any order.
@@ -9,7 +9,8 @@
 //
 // Beside these, `program` hands back one program as a part of the image, and `program_refusal` says why it does not.
 // `second_rule` says whether Rule 2 is in force; `of_gathered` and `of_settled` give the numbers of an answer.
-// Every call answers for every input. A refusal carries its number from document 01 and changes nothing that was lent.
+// Every call answers for every input. A refusal carries its number from document 01 and changes nothing that was lent; 0 is none.
+pub use area::area_words;
 pub use carry::Next;
 pub use carry::next_image;
 pub use image::Image;
@@ -30,10 +31,8 @@ pub use steps::gather;
 pub use steps::open;
 pub use steps::settle;
 
-// A program's slot in the work area, and the most words that an area has: for T cells and n programs it has 2T + SLOT_WORDS × n.
-pub const SLOT_WORDS: usize = slot::WORDS;
-
-pub const AREA_WORDS: usize = 2 * image::Image::CELLS + SLOT_WORDS * image::Image::PROGRAMS;
+// The most words that a work area has.
+pub const AREA_WORDS: usize = area::AREA_WORDS;
 
 // The states of a program, as an answer's numbers have them.
 pub const WAITING: u32 = slot::WAITING;
