@@ -28,18 +28,20 @@ fn print_order(table: &[u32], area: &[u32]) {
 
 fn main() {
     let mut table = [20u32, 0];
-    // 2T + 100n words for T cells and n programs
-    let mut area = [0u32; 2 * 2 + sheetbendle::SLOT_WORDS * 2];
-    let refused = sheetbendle::open(&IMAGE, &table, &mut area);
-    if refused != 0 {
-        print(b"refused ", refused);
+    // room for the largest work area; of it, the words of one for two cells and two programs
+    let mut room = [0u32; sheetbendle::AREA_WORDS];
+    let words = sheetbendle::area_words(2, 2);
+    let area = &mut room[0..words];
+    let refused = sheetbendle::open(&IMAGE, &table, area);
+    if refused.number != 0 {
+        print(b"refused ", refused.number);
         return;
     }
-    sheetbendle::gather(&IMAGE, &table, &mut area, 0);
-    sheetbendle::gather(&IMAGE, &table, &mut area, 1);
-    sheetbendle::settle(&IMAGE, &mut table, &mut area, 0);
-    sheetbendle::settle(&IMAGE, &mut table, &mut area, 1);
-    print_order(&table, &area);
+    sheetbendle::gather(&IMAGE, &table, area, 0);
+    sheetbendle::gather(&IMAGE, &table, area, 1);
+    sheetbendle::settle(&IMAGE, &mut table, area, 0);
+    sheetbendle::settle(&IMAGE, &mut table, area, 1);
+    print_order(&table, area);
     print(b"set point ", table[0]);
     print(b"beacon's copy ", table[1]);
 }

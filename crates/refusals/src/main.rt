@@ -3,43 +3,23 @@
 ghost use mathlib.Core.Path.{_≡_};
 ghost use Prim.Native.Nat.{_+_, _<_, _≤_};
 ghost use lib.ListN.{length};
-ghost use Rattle.slot.specs.Layout.{slotWords};
+ghost use Rattle.image.specs.Limits.{maxPrograms, headBytes};
+ghost use Rattle.area.specs.Layout.{areaWords, slotStart};
 
 const CELLS: usize = 3;
 
 const PROGRAMS: usize = 3;
 
-// The bytes of case 2's image, of one that is cut short, and of an image of 64 programs without instructions.
+// The bytes of case 2's image, and of one that is cut short.
 const IMAGE: usize = 80;
 
 const CUT: usize = IMAGE - 1;
 
-const EMPTY: usize = sheetbendle::Image::LEAST_BYTES + 2 * sheetbendle::Image::PROGRAMS;
-
 // Room for every next image.
 const ROOM: usize = sheetbendle::Image::BYTES;
 
-// Where the slots begin in the work area, behind the marks; it ends with the last of them.
-const SLOT_0: usize = 2 * CELLS;
-
-const SLOT_1: usize = SLOT_0 + sheetbendle::SLOT_WORDS;
-
-const SLOT_2: usize = SLOT_1 + sheetbendle::SLOT_WORDS;
-
-const AREA: usize = SLOT_2 + sheetbendle::SLOT_WORDS;
-
-const SHORT: usize = AREA - 1;
-
-// Some of its words: a mark, two states, a read count and the first read that it counts.
+// The first word of the work area is a mark.
 const MARK: usize = 0;
-
-const STATE_0: usize = SLOT_0 + slot::STATE;
-
-const READ_COUNT_1: usize = SLOT_1 + slot::READ_COUNT;
-
-const READ_1: usize = SLOT_1 + slot::READS;
-
-const STATE_2: usize = SLOT_2 + slot::STATE;
 
 // Case 2's image: 004's Example 1 under Rule 2, programs of 5, 6 and 6 instructions behind a header of 12 bytes.
 fn example() -> [u8; IMAGE]
@@ -58,23 +38,25 @@ fn changed(at: usize, value: u8) -> [u8; IMAGE]
     image
 }
 
-// An image of 64 programs without instructions: its 65 offsets all name its end.
-fn empty_programs() -> [u8; EMPTY]
-    ensures { λ r. ⌜ 134 ≡ length r ⌝ }
-{
-    let mut image = [0; EMPTY];
-    image[0] = 64;
-    for i in 0..65usize {
-        image[4 + 2 * i] = 134;
-    }
-    image
-}
-
 // Room for one byte more than the largest image has.
 fn image_room() -> [u8; sheetbendle::Image::BYTES + 1]
     ensures { λ r. ⌜ 8327 ≡ length r ⌝ }
 {
     [0; sheetbendle::Image::BYTES + 1]
+}
+
+// Makes an image of 64 programs without instructions at the front of the room, and answers its length: its 65 offsets all name its end.
+fn empty_programs(room: &mut [u8]) -> usize
+    requires { ⌜ 8327 ≡ length (now room) ⌝ }
+    ensures { λ r. ⌜ r ≡ headBytes maxPrograms ⌝ }
+{
+    let end = image::head_bytes(sheetbendle::Image::PROGRAMS);
+    let low = end as u8;
+    room[0] = 64;
+    for i in 0..65usize {
+        room[4 + 2 * i] = low;
+    }
+    end
 }
 
 // A table of one cell too many.
@@ -84,11 +66,26 @@ fn long_table() -> [u32; sheetbendle::Image::CELLS + 1]
     [0; sheetbendle::Image::CELLS + 1]
 }
 
-// Room for the work area; every word is 0, as opening leaves it.
-fn area_room() -> [u32; AREA]
-    ensures { λ r. ⌜ 306 ≡ length r ⌝ }
+// Room for every work area; every word is 0, as opening leaves it.
+fn area_room() -> [u32; sheetbendle::AREA_WORDS]
+    ensures { λ r. ⌜ areaWords 256 64 ≡ length r ⌝ }
 {
-    [0; AREA]
+    [0; sheetbendle::AREA_WORDS]
+}
+
+// How many words the work area has.
+fn words() -> usize
+    ensures { λ r. ⌜ r ≡ areaWords 3 3 ⌝ }
+{
+    sheetbendle::area_words(CELLS as u16, PROGRAMS as u16)
+}
+
+// Where a program's slot begins in it.
+fn slot_of(number: usize) -> usize
+    requires { ⌜ number < 3 ⌝ }
+    ensures { λ r. ⌜ r ≡ slotStart 3 number ⌝ }
+{
+    area::slot_start(CELLS, number)
 }
 
 // Puts a word at a place of the area.
@@ -100,21 +97,21 @@ fn put(area: &mut [u32], at: usize, value: u32)
 }
 
 // Prints what was asked and the number that came back.
-fn show(what: &[u8], refusal: u32) {
+fn show(what: &[u8], number: u32) {
     io::write_all(1, what);
     io::write_all(1, b": ");
-    io::print_decimal(1, refusal as u64);
+    io::print_decimal(1, number as u64);
     io::write_all(1, b"\n");
 }
 
 // Shows what handing back a program of an image says.
 fn show_program(what: &[u8], image: &[u8], number: usize) {
-    show(what, sheetbendle::program_refusal(image, number));
+    show(what, sheetbendle::program_refusal(image, number).number);
 }
 
 // Shows what opening says.
 fn show_open(what: &[u8], image: &[u8], table: &[u32], area: &mut [u32]) {
-    show(what, sheetbendle::open(image, table, area));
+    show(what, sheetbendle::open(image, table, area).number);
 }
 
 // Shows what gathering says with case 2's image.
@@ -191,10 +188,11 @@ fn of_image() {
 
 // Rows 1, 5 and 6, at opening.
 fn of_opening(table: &[u32], area: &mut [u32])
-    requires { ⌜ 306 ≡ length (now area) ⌝ }
+    requires { ⌜ areaWords 3 3 ≡ length (now area) ⌝ }
 {
     let image = example();
     let long = long_table();
+    let short = area.len() - 1;
     show_open(b"open with a bad image", &image[0..5], table, area);
     show_open(b"open with no table", &image, &[], area);
     show_open(b"open with 257 cells", &image, &long, area);
@@ -202,32 +200,32 @@ fn of_opening(table: &[u32], area: &mut [u32])
         b"open with an area too short",
         &image,
         table,
-        &mut area[0..SHORT],
+        &mut area[0..short],
     );
     show_open(b"open", &image, table, area);
 }
 
 // Shows what gathering program 0 says of an area with one word changed; program 1 counts one read in it.
 fn show_spoilt(what: &[u8], table: &[u32], at: usize, value: u32)
-    requires { ⌜ at < 306 ⌝ }
+    requires { ⌜ at < areaWords 3 3 ⌝ }
 {
-    let mut area = area_room();
-    put(&mut area, READ_COUNT_1, 1);
-    put(&mut area, at, value);
-    show_gather(what, table, &mut area, 0);
+    let mut room = area_room();
+    let end = words();
+    let area = &mut room[0..end];
+    put(area, slot_of(1) + slot::READ_COUNT, 1);
+    put(area, at, value);
+    show_gather(what, table, area, 0);
 }
 
 // Row 7: a mark, a state, a count, a counted cell.
 fn of_area_words(table: &[u32]) {
+    let state = slot_of(0) + slot::STATE;
+    let count = slot_of(1) + slot::READ_COUNT;
+    let read = slot_of(1) + slot::READS;
     show_spoilt(b"gather with a mark over n", table, MARK, 4);
-    show_spoilt(b"gather with a state over 5", table, STATE_0, 6);
-    show_spoilt(b"gather with a count over 32", table, READ_COUNT_1, 33);
-    show_spoilt(
-        b"gather with a cell of T among the counted",
-        table,
-        READ_1,
-        3,
-    );
+    show_spoilt(b"gather with a state over 5", table, state, 6);
+    show_spoilt(b"gather with a count over 32", table, count, 33);
+    show_spoilt(b"gather with a cell of T among the counted", table, read, 3);
 }
 
 // Rows 8 and 9, at gathering.
@@ -287,16 +285,23 @@ fn of_fresh(table: &[u32], area: &[u32]) {
 
 // Rows 11 and 10, at the next image.
 fn of_next(table: &[u32], area: &[u32]) {
-    let many = empty_programs();
+    let mut room = image_room();
+    let end = empty_programs(&mut room);
     let fresh = example();
-    show_next(b"one carried and 64 fresh", table, area, &many, ROOM);
+    show_next(
+        b"one carried and 64 fresh",
+        table,
+        area,
+        &room[0..end],
+        ROOM,
+    );
     show_next(b"next image into 105 bytes", table, area, &fresh, 105);
     show_next(b"next image into 106 bytes", table, area, &fresh, 106);
 }
 
 // The batch, step by step, on a table and in an area of its size.
 fn run_batch(table: &mut [u32], area: &mut [u32])
-    requires { ⌜ 306 ≡ length (now area) ⌝ }
+    requires { ⌜ areaWords 3 3 ≡ length (now area) ⌝ }
 {
     of_opening(table, area);
     of_area_words(table);
@@ -311,14 +316,16 @@ fn run_batch(table: &mut [u32], area: &mut [u32])
 // The batch of case 2: x is 9 and y is 4.
 fn of_batch() {
     let mut table = [9u32, 4, 0];
-    let mut area = area_room();
-    run_batch(&mut table, &mut area);
+    let mut room = area_room();
+    let end = words();
+    run_batch(&mut table, &mut room[0..end]);
 }
 
-// Makes the program of the slot at a place committed, with one cell read and one stored.
-fn commit(area: &mut [u32], at: usize, read: u32, stored: u32)
-    requires { ⌜ at + slotWords ≤ length (now area) ⌝ }
+// Makes a program committed, with one cell read and one stored.
+fn commit(area: &mut [u32], number: usize, read: u32, stored: u32)
+    requires { ⌜ (number < 3) × (areaWords 3 3 ≡ length (now area)) ⌝ }
 {
+    let at = slot_of(number);
     put(area, at + slot::STATE, slot::COMMITTED);
     put(area, at + slot::READ_COUNT, 1);
     put(area, at + slot::READS, read);
@@ -328,31 +335,34 @@ fn commit(area: &mut [u32], at: usize, read: u32, stored: u32)
 
 // Programs 0 and 1 each wait for the other; program 2 is out of it.
 fn knot_two(area: &mut [u32])
-    requires { ⌜ 306 ≡ length (now area) ⌝ }
+    requires { ⌜ areaWords 3 3 ≡ length (now area) ⌝ }
 {
-    commit(area, SLOT_0, 1, 0);
-    commit(area, SLOT_1, 0, 1);
-    put(area, STATE_2, slot::REJECTED);
+    commit(area, 0, 1, 0);
+    commit(area, 1, 0, 1);
+    put(area, slot_of(2) + slot::STATE, slot::REJECTED);
 }
 
 // Each of the three programs waits for another.
 fn knot_three(area: &mut [u32])
-    requires { ⌜ 306 ≡ length (now area) ⌝ }
+    requires { ⌜ areaWords 3 3 ≡ length (now area) ⌝ }
 {
-    commit(area, SLOT_0, 1, 0);
-    commit(area, SLOT_1, 2, 1);
-    commit(area, SLOT_2, 0, 2);
+    commit(area, 0, 1, 0);
+    commit(area, 1, 2, 1);
+    commit(area, 2, 0, 2);
 }
 
 // Row 12, in areas that the calls never make.
 fn of_knots() {
     let table = [0u32; CELLS];
-    let mut two = area_room();
-    knot_two(&mut two);
-    show_order(b"order of a knot of two", &table, &two, PROGRAMS);
-    let mut three = area_room();
-    knot_three(&mut three);
-    show_order(b"order of a knot of three", &table, &three, PROGRAMS);
+    let end = words();
+    let mut room_2 = area_room();
+    let two = &mut room_2[0..end];
+    knot_two(two);
+    show_order(b"order of a knot of two", &table, two, PROGRAMS);
+    let mut room_3 = area_room();
+    let three = &mut room_3[0..end];
+    knot_three(three);
+    show_order(b"order of a knot of three", &table, three, PROGRAMS);
 }
 
 // The whole table, in the order in which a batch can earn it.

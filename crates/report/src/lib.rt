@@ -5,6 +5,7 @@ ghost use Prim.Native.Nat.{_+_, _*_, _≤_, _<_};
 ghost use lib.ListN.{length};
 ghost use Rattle.image.specs.Limits.{maxPrograms, maxCells};
 ghost use Rattle.area.specs.Layout.{areaWords};
+ghost use Rattle.report.specs.Room.{Roomy};
 
 // T in two bytes, T cells of four bytes, then the image.
 const COUNT_BYTES: usize = 2;
@@ -29,9 +30,9 @@ fn print_number(n: u32) {
     io::print_decimal(OUT, n as u64);
 }
 
-fn print_refused(number: u32) {
+fn print_refused(refusal: sheetbendle::Refusal) {
     print(b"refused");
-    print_number(number);
+    print_number(refusal.number);
     print(b"\n");
 }
 
@@ -147,7 +148,7 @@ fn print_end(image: &[u8], table: &[u32], area: &[u32], states: &[u32], details:
 {
     let mut list = program_room();
     match sheetbendle::order(image, table, area, &mut list) {
-        sheetbendle::Listed::Refused(refusal) => print_refused(refusal.number),
+        sheetbendle::Listed::Refused(refusal) => print_refused(refusal),
         sheetbendle::Listed::Count(count) => {
             print_head(image, table.len(), states.len());
             print_programs(states, details);
@@ -157,7 +158,22 @@ fn print_end(image: &[u8], table: &[u32], area: &[u32], states: &[u32], details:
     }
 }
 
-// Opens, gathers and settles in number order, and prints the end; or prints the refusal.
+// Gathers and settles in number order, and prints the end.
+fn run_opened(
+    image: &[u8],
+    table: &mut [u32],
+    area: &mut [u32],
+    states: &mut [u32],
+    details: &mut [u32],
+)
+    requires { ⌜ length (now states) ≡ length (now details) ⌝ }
+{
+    gather_all(image, table, area, states, details);
+    settle_all(image, table, area, states, details);
+    print_end(image, table, area, states, details);
+}
+
+// Opens, and runs the batch, or prints the refusal.
 fn run_in(
     image: &[u8],
     table: &mut [u32],
@@ -168,21 +184,19 @@ fn run_in(
     requires { ⌜ length (now states) ≡ length (now details) ⌝ }
 {
     let refused = sheetbendle::open(image, table, area);
-    if refused != 0 {
+    if refused.number != 0 {
         print_refused(refused);
         return;
     }
-    gather_all(image, table, area, states, details);
-    settle_all(image, table, area, states, details);
-    print_end(image, table, area, states, details);
+    run_opened(image, table, area, states, details);
 }
 
 // How many programs the header names, 0 where that is over the limit: opening then refuses the image before it looks at the area.
-fn programs_of(image: &[u8]) -> usize
+fn programs_of(image: &[u8]) -> u16
     ensures { λ r. ⌜ r ≤ maxPrograms ⌝ }
 {
-    let n = sheetbendle::Image::header(image).count as usize;
-    if sheetbendle::Image::PROGRAMS < n {
+    let n = sheetbendle::Image::header(image).count;
+    if sheetbendle::Image::PROGRAMS < n as usize {
         return 0;
     }
     n
@@ -196,10 +210,11 @@ fn run_on(
     states: &mut [u32],
     details: &mut [u32],
 )
-    requires { ⌜ (length (now table) ≤ maxCells) × (areaWords maxCells maxPrograms ≤ length (now area)) × (maxPrograms ≤ length (now states)) × (maxPrograms ≤ length (now details)) ⌝ }
+    requires { ⌜ Roomy (now table) (now area) (now states) (now details) ⌝ }
 {
-    let n = programs_of(image);
-    let words = 2 * table.len() + sheetbendle::SLOT_WORDS * n;
+    let programs = programs_of(image);
+    let words = sheetbendle::area_words(table.len() as u16, programs);
+    let n = programs as usize;
     run_in(
         image,
         table,
@@ -296,7 +311,7 @@ fn run_table(input: &[u8], cells: usize, room: &mut [u32])
 pub fn print_batch(input: &[u8]) {
     let cells = cells_of(input);
     if cells == 0 {
-        print_refused(sheetbendle::Refusal::TABLE);
+        print_refused(sheetbendle::Refusal::TABLE_SIZE);
         return;
     }
     let mut room = table_room();
