@@ -14,29 +14,8 @@ Inv-loop input₀ there₀ input there = (there ≤ length input) × (length inp
 abbrev μ-loop : tie.MeasureT-loop
 μ-loop input₀ there₀ input there = length input - there
 
-loop-holds : tie.Need-loop-holds Inv-loop μ-loop
-loop-holds c = search needs
-
-read-on-requires : tie.Need-read-on-requires Inv-loop μ-loop
-read-on-requires c κs = search needs
-
-add-there : tie.Need-add-there Inv-loop μ-loop
-add-there c = search needs
-
-loop-less : tie.Need-loop-less Inv-loop μ-loop
-loop-less c = search needs
-
-loop-again : tie.Need-loop-again Inv-loop μ-loop
-loop-again c = search needs
-
-same-length : tie.Need-same-length Inv-loop μ-loop
-same-length c = search needs
-
 returns : tie.Need-returns Inv-loop μ-loop
 returns c = counts _ _ (search needs)
-
-same-length-2 : tie.Need-same-length-2 Inv-loop μ-loop
-same-length-2 c = search needs
 
 returns-2 : tie.Need-returns-2 Inv-loop μ-loop
 returns-2 c = counts _ _ (search needs)
@@ -47,12 +26,12 @@ read-input-spec =
     (tie.spec
     Inv-loop
     μ-loop
-    loop-holds
-    read-on-requires
-    add-there
-    loop-less
-    loop-again
-    same-length
+    (λ c. search needs)
+    (λ c κs. search needs)
+    (λ c. search needs)
+    (λ c. search needs)
+    (λ c. search needs)
+    (λ c. search needs)
     returns
-    same-length-2
+    (λ c. search needs)
     returns-2)

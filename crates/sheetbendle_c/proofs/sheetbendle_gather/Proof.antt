@@ -4,18 +4,9 @@ use borrow.Author.Needs.{needs}
 use Rattle.sheetbendle_c.proofs.sheetbendle_gather.Statement.{statement}
 use Rattle.sheetbendle_c.proofs.sheetbendle_gather.Tie as tie
 
-gather-requires : tie.Need-gather-requires
-gather-requires c κs = search needs
-
-of-gathered-requires : tie.Need-of-gathered-requires
-of-gathered-requires c κs = search needs
-
-same-length : tie.Need-same-length
-same-length c = search needs
-
 returns : tie.Need-returns
 returns c = gather-tells _ _ _ _ _ _ _ (c .before .before .before .gather .ensures) (c .of-gathered .ensures)
 
 pub sheetbendle-gather-spec : {M : Type 1} → statement M
 sheetbendle-gather-spec =
-    tie.close (tie.spec gather-requires of-gathered-requires same-length returns)
+    tie.close (tie.spec (λ c κs. search needs) (λ c κs. search needs) (λ c. search needs) returns)

@@ -4,14 +4,8 @@ use borrow.Author.Needs.{needs}
 use Rattle.sheetbendle_c.proofs.sheetbendle_open.Statement.{statement}
 use Rattle.sheetbendle_c.proofs.sheetbendle_open.Tie as tie
 
-open-requires : tie.Need-open-requires
-open-requires c κs = search needs
-
-same-length : tie.Need-same-length
-same-length c = search needs
-
 returns : tie.Need-returns
 returns c = let said = c .before .before .open .ensures in record { number = number-of (said .answer); area = said .area }
 
 pub sheetbendle-open-spec : {M : Type 1} → statement M
-sheetbendle-open-spec = tie.close (tie.spec open-requires same-length returns)
+sheetbendle-open-spec = tie.close (tie.spec (λ c κs. search needs) (λ c. search needs) returns)

@@ -4,17 +4,11 @@ use borrow.Author.Needs.{needs}
 use Rattle.sheetbendle_c.proofs.sheetbendle_order.Statement.{statement}
 use Rattle.sheetbendle_c.proofs.sheetbendle_order.Tie as tie
 
-order-requires : tie.Need-order-requires
-order-requires c κs = search needs
-
 of-listed-requires : tie.Need-of-listed-requires
 of-listed-requires c κs = order-small _ _ _ _ _ _ (c .before .before .order .ensures)
-
-same-length : tie.Need-same-length
-same-length c = search needs
 
 returns : tie.Need-returns
 returns c = order-tells _ _ _ _ _ _ _ (c .before .before .before .order .ensures) (c .of-listed .ensures)
 
 pub sheetbendle-order-spec : {M : Type 1} → statement M
-sheetbendle-order-spec = tie.close (tie.spec order-requires of-listed-requires same-length returns)
+sheetbendle-order-spec = tie.close (tie.spec (λ c κs. search needs) of-listed-requires (λ c. search needs) returns)

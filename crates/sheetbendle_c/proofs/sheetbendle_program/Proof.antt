@@ -5,14 +5,8 @@ use borrow.Author.Needs.{needs}
 use Rattle.sheetbendle_c.proofs.sheetbendle_program.Statement.{statement}
 use Rattle.sheetbendle_c.proofs.sheetbendle_program.Tie as tie
 
-program-requires : tie.Need-program-requires
-program-requires c κs = search needs
-
-program-start-requires : tie.Need-program-start-requires
-program-start-requires c κs = search needs
-
 returns : tie.Need-returns
 returns c = record { start = c .program-start .ensures; extent = ap length (c .before .program .ensures .part .bytes-are) }
 
 pub sheetbendle-program-spec : {M : Type 1} → statement M
-sheetbendle-program-spec = tie.close (tie.spec program-requires program-start-requires returns)
+sheetbendle-program-spec = tie.close (tie.spec (λ c κs. search needs) (λ c κs. search needs) returns)

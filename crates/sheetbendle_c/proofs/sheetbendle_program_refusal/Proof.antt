@@ -4,11 +4,8 @@ use borrow.Author.Needs.{needs}
 use Rattle.sheetbendle_c.proofs.sheetbendle_program_refusal.Statement.{statement}
 use Rattle.sheetbendle_c.proofs.sheetbendle_program_refusal.Tie as tie
 
-program-refusal-requires : tie.Need-program-refusal-requires
-program-refusal-requires c κs = search needs
-
 returns : tie.Need-returns
 returns c = record { number = number-of (c .program-refusal .ensures .answer) }
 
 pub sheetbendle-program-refusal-spec : {M : Type 1} → statement M
-sheetbendle-program-refusal-spec = tie.close (tie.spec program-refusal-requires returns)
+sheetbendle-program-refusal-spec = tie.close (tie.spec (λ c κs. search needs) returns)
