@@ -218,12 +218,12 @@ fn table_good(table: &[u32]) -> bool
 }
 
 // Whether each of count words from a place on is below a bound.
-fn all_below(area: &[u32], bound: usize, at: usize, count: usize) -> bool
+fn all_below(area: &[u32], bound: u32, at: usize, count: usize) -> bool
     requires { ⌜ at + count ≤ length (now area) ⌝ }
     ensures { λ r. ⌜ r ≡ allBelow bound at count (now (area .entry)) ⌝ }
 {
     for i in 0..count {
-        if bound <= area[at + i] as usize {
+        if bound <= area[at + i] {
             return false;
         }
     }
@@ -239,7 +239,7 @@ fn list_good(area: &[u32], cells: usize, k: usize, list: slot::ListKind) -> bool
     if slot::LIST < s.count {
         return false;
     }
-    all_below(area, cells, s.at, s.count)
+    all_below(area, cells as u32, s.at, s.count)
 }
 
 // Check 7 of slot k.
@@ -274,10 +274,11 @@ fn words_good(area: &[u32], cells: usize, n: usize) -> bool
     requires { ⌜ Measured cells n (now area) ⌝ }
     ensures { λ r. ⌜ r ≡ wordsGood cells n (now (area .entry)) ⌝ }
 {
-    if !all_below(area, n + 1, marks_start(MarkKind::Write, cells), cells) {
+    let over = n as u32 + 1;
+    if !all_below(area, over, marks_start(MarkKind::Write, cells), cells) {
         return false;
     }
-    if !all_below(area, n + 1, marks_start(MarkKind::Read, cells), cells) {
+    if !all_below(area, over, marks_start(MarkKind::Read, cells), cells) {
         return false;
     }
     slots_good(area, cells, n)

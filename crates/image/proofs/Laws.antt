@@ -12,7 +12,7 @@ use Rattle.base.specs.Words.{every}
 use Rattle.base.proofs.Bools.{and-left, and-right}
 use Rattle.base.proofs.Numbers.{every-at, every-false}
 use Rattle.base.proofs.Parts.{words-length}
-use Rattle.image.specs.Limits.{maxPrograms, instructionBytes, maxProgramBytes}
+use Rattle.image.specs.Limits.{maxPrograms, instructionBytes, maxProgramBytes, headBytes}
 use Rattle.image.specs.declared.Refusal.{Refusal}
 use Rattle.image.specs.Refusals as refusal
 use Rattle.image.specs.Refusals.{check}
@@ -71,8 +71,14 @@ module _ (image : List ℕ) (good : offsetsGood image ≡ true) where
       let e : p + 1 + (countOf image - (p + 1)) ≡ countOf image = omega arith in
       rw (← offsets-end) (rw e at (rise-by (countOf image - (p + 1)) (p + 1) (omega arith)))
 
+  offsets-stand : (p : ℕ) → p < countOf image → headBytes (p + 1) ≤ length image
+  unfolding offsetsGood
+  offsets-stand p l =
+      let h : headBytes (countOf image) ≤ length image = leb-true _ _ (and-left (holdsOffsets image) (firstGood image) (and-left (holdsOffsets image && firstGood image) (extentsGood image) (and-left (holdsOffsets image && firstGood image && extentsGood image) (lastGood image) good))) in
+      omega arith
+
   pub lies : (p : ℕ) → p < countOf image → Lies image p
-  lies p l = record { rise = offsets-rise p l; within = offsets-within p l; short = extent-short p l }
+  lies p l = record { stand = offsets-stand p l; rise = offsets-rise p l; within = offsets-within p l; short = extent-short p l }
 
   pub part-short : (p : ℕ) → p < countOf image → length (partOf image p) ≤ maxProgramBytes
   part-short p l = lies-short image p (lies p l)

@@ -48,8 +48,9 @@ bytesOf image p = offsetOf image (p + 1) - offsetOf image p
 unfoldable pub partOf : List ℕ → ℕ → List ℕ
 partOf image p = words (offsetOf image p) (bytesOf image p) image
 
--- It lies in the image: its two offsets are in order and end inside, and it is no longer than a program may be.
+-- It lies in the image: its two offsets stand there, are in order and end inside, and it is no longer than a program may be.
 pub record Lies (image : List ℕ) (p : ℕ) : Type 0 where
+  pub stand : headBytes (p + 1) ≤ length image
   pub rise : offsetOf image p ≤ offsetOf image (p + 1)
   pub within : offsetOf image (p + 1) ≤ length image
   pub short : bytesOf image p ≤ maxProgramBytes

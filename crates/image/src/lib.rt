@@ -1,9 +1,10 @@
 // The image reader: document 01, "Sizes" and "The image: counts and offsets".
 ghost use mathlib.Core.Path.{_≡_};
 ghost use mathlib.Core.Bool.{true};
-ghost use Prim.Native.Nat.{_^_, _<_, _≤_};
+ghost use Prim.Native.Nat.{_+_, _*_, _<_, _≤_};
+ghost use lib.ListN.{length};
 ghost use Rattle.image.specs.Limits.{headBytes};
-ghost use Rattle.image.specs.Image.{byteAt, numberAt, countOf, ruleByte, headerOf, secondRule, offsetOf, partOf, Lies, Part, startOf};
+ghost use Rattle.image.specs.Image.{byteAt, countOf, ruleByte, headerOf, secondRule, offsetOf, partOf, Lies, Part, startOf};
 ghost use Rattle.image.specs.Image.{sizeGood, headerGood, extentGood, extentsGood, offsetsGood, codeGood, refusalOf, freshRefusalOf};
 ghost use Rattle.image.specs.Image.{ProgramSays, ProgramRefusalSays};
 
@@ -41,7 +42,7 @@ impl Image {
         ensures { λ r. ⌜ r ≡ headerOf (now (bytes .entry)) ⌝ }
     {
         Image {
-            count: number_at(bytes, 0),
+            count: number(byte_at(bytes, 0), byte_at(bytes, 1)),
             rule: byte_at(bytes, 2),
             zero: byte_at(bytes, 3),
         }
@@ -102,14 +103,11 @@ fn byte_at(bytes: &[u8], at: usize) -> u8
     if at < bytes.len() { bytes[at] } else { 0 }
 }
 
-// The number of 16 bits, low byte first, at a place.
-fn number_at(bytes: &[u8], at: usize) -> u16
-    requires { ⌜ at < 2 ^ 32 ⌝ }
-    ensures { λ r. ⌜ r ≡ numberAt (now (bytes .entry)) at ⌝ }
+// The number of 16 bits that two bytes are, low byte first.
+fn number(low: u8, high: u8) -> u16
+    ensures { λ r. ⌜ r ≡ low + 256 * high ⌝ }
 {
-    let low = byte_at(bytes, at) as u16;
-    let high = byte_at(bytes, at + 1) as u16;
-    low + 256 * high
+    low as u16 + 256 * high as u16
 }
 
 // The program count.
@@ -141,17 +139,18 @@ pub fn head_bytes(n: usize) -> usize
     2 * n + Image::LEAST_BYTES
 }
 
-// Offset p of the image.
+// Offset p of the image, which stands in it.
 fn offset(bytes: &[u8], p: usize) -> usize
-    requires { ⌜ p ≤ 65536 ⌝ }
+    requires { ⌜ (headBytes p ≤ length (now bytes)) × (p ≤ 65536) ⌝ }
     ensures { λ r. ⌜ (r ≡ offsetOf (now (bytes .entry)) p) × (r < 65536) ⌝ }
 {
-    number_at(bytes, 4 + 2 * p) as usize
+    let at = 4 + 2 * p;
+    number(bytes[at], bytes[at + 1]) as usize
 }
 
 // Whether program p's offsets do not fall and its length is a multiple of 4 and at most 128.
 fn extent_good(bytes: &[u8], p: usize) -> bool
-    requires { ⌜ p < 65536 ⌝ }
+    requires { ⌜ (headBytes (p + 1) ≤ length (now bytes)) × (p < 65536) ⌝ }
     ensures { λ r. ⌜ r ≡ extentGood (now (bytes .entry)) p ⌝ }
 {
     let start = offset(bytes, p);
@@ -168,7 +167,7 @@ fn extent_good(bytes: &[u8], p: usize) -> bool
 
 // Whether that holds of every program.
 fn extents_good(bytes: &[u8], n: usize) -> bool
-    requires { ⌜ (n ≡ countOf (now bytes)) × (n < 65536) ⌝ }
+    requires { ⌜ (n ≡ countOf (now bytes)) × (headBytes n ≤ length (now bytes)) × (n < 65536) ⌝ }
     ensures { λ r. ⌜ r ≡ extentsGood (now (bytes .entry)) ⌝ }
 {
     for p in 0..n {

@@ -22,9 +22,6 @@ abbrev μ-loop : tie.MeasureT-loop
 loop-holds : tie.Need-loop-holds Inv-loop μ-loop
 loop-holds c = (search needs, every-none _)
 
-cast-if1 : tie.Need-cast-if1 Inv-loop μ-loop
-cast-if1 c = omega (arith, c .shared-slice-known .given (c .before .before .before .args .at + c .before .before .loop .i))
-
 returns : tie.Need-returns Inv-loop μ-loop
 unfolding allBelow
 returns c = sym (every-false _ _ (c .before .before .before .loop .i) (omega arith) (le-ltb _ _ (c .if1 .taken)))
@@ -46,7 +43,6 @@ all-below-spec =
     (λ c. search needs)
     (λ c. search needs)
     (λ c. search needs)
-    cast-if1
     returns
     (λ c. search needs)
     (λ c. search needs)

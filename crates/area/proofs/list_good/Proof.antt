@@ -1,4 +1,5 @@
 -- A count that passes lets the cells be looked at. Assumes nothing.
+use native.Mathlib.Omega.{arith}
 use Rattle.area.proofs.Places.{list-long, list-short, list-there}
 use borrow.Author.Needs.{needs}
 use Rattle.area.proofs.list_good.Statement.{statement}
@@ -6,6 +7,9 @@ use Rattle.area.proofs.list_good.Tie as tie
 
 returns : tie.Need-returns
 returns c = let s = c .before .before in list-long _ _ _ (s .before .before .args .list) _ (s .span-of .ensures) (c .if1 .taken)
+
+cast-all-below : tie.Need-cast-all-below
+cast-all-below c = omega (arith, c .before .before .before .before .pre .cells-few)
 
 all-below-requires : tie.Need-all-below-requires
 all-below-requires c κs =
@@ -19,4 +23,4 @@ returns-2 c =
     list-short _ _ _ (s .before .before .args .list) _ (s .span-of .ensures) (t .if1 .left) _ (c .all-below .ensures)
 
 pub list-good-spec : {M : Type 1} → statement M
-list-good-spec = tie.close (tie.spec (λ c κs. search needs) returns all-below-requires returns-2)
+list-good-spec = tie.close (tie.spec (λ c κs. search needs) returns cast-all-below all-below-requires returns-2)

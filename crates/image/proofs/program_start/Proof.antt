@@ -5,7 +5,7 @@ use borrow.Author.Needs.{needs}
 use denote.Ref.{now}
 use Rattle.image.specs.Image.{programRefusalOf}
 use Rattle.image.proofs.Refusing.{number-of}
-use Rattle.image.proofs.Laws.{handed-low, handed-part, handed-nothing}
+use Rattle.image.proofs.Laws.{lies, accepted, handed-back, handed-low, handed-part, handed-nothing}
 use Rattle.image.proofs.program_start.Statement.{statement}
 use Rattle.image.proofs.program_start.Tie as tie
 
@@ -16,7 +16,10 @@ found : (c : tie.Then1) → let a = start (c .before .before) .args in programRe
 found c = number-of (sym (c .before .before .program-refusal .ensures .answer)) ∙ c .if1 .taken
 
 offset-requires : tie.Need-offset-requires
-offset-requires c κs = let a = start (c .before .before) .args in omega (arith, handed-low (now (a .image)) (a .number) (found c))
+offset-requires c κs =
+    let a = start (c .before .before) .args in
+    let asked = handed-back (now (a .image)) (a .number) (found c) in
+    (omega (arith, lies _ (accepted _ (asked .0) .offsets) _ (asked .1) .stand), omega (arith, handed-low (now (a .image)) (a .number) (found c)))
 
 returns : tie.Need-returns
 returns c =
