@@ -5,6 +5,7 @@ ghost use lib.ListN.{length};
 ghost use Rattle.base.specs.Words.{words};
 ghost use Rattle.base.specs.Masks.{maskOf};
 ghost use Rattle.image.specs.Limits.{maxPrograms, maxCells};
+ghost use Rattle.image.specs.Image.{refusalOf};
 ghost use Rattle.area.specs.Layout.{areaWords, marksAt, slotStart, spanOf, listOf, stateOf, inGroup, withState};
 ghost use Rattle.area.specs.Marks.{lower, reserve, earlier, hit, depends, storedBy, committedTable};
 ghost use Rattle.area.specs.Checks.{tableGood, allBelow, listGood, slotGood, slotsGood, wordsGood, statesFrom};
@@ -298,24 +299,35 @@ fn room_refusal(n: usize, table: &[u32], area: &[u32]) -> image::Refusal
     image::Refusal::NONE
 }
 
-// Checks 1 to 6.
-pub fn open_refusal(image: &[u8], table: &[u32], area: &[u32]) -> image::Refusal
+// Checks 1 to 6, of which 1 to 4 are made before: they need the stack that they need once, and not below this call's.
+pub fn open_refusal(
+    refused: image::Refusal,
+    image: &[u8],
+    table: &[u32],
+    area: &[u32],
+) -> image::Refusal
+    requires { ⌜ refused ≡ refusalOf (now image) ⌝ }
     ensures { λ r. ⌜ r ≡ openRefusal (now (image .entry)) (now (table .entry)) (now (area .entry)) ⌝ }
 {
-    let refused = image::image_refusal(image);
     if refused.number != 0 {
         return refused;
     }
     room_refusal(image::count(image), table, area)
 }
 
-// Checks 1 to 7.
-pub fn call_refusal(image: &[u8], table: &[u32], area: &[u32]) -> image::Refusal
+// Checks 1 to 7, of which 1 to 4 are made before.
+pub fn call_refusal(
+    refused: image::Refusal,
+    image: &[u8],
+    table: &[u32],
+    area: &[u32],
+) -> image::Refusal
+    requires { ⌜ refused ≡ refusalOf (now image) ⌝ }
     ensures { λ r. ⌜ r ≡ callRefusal (now (image .entry)) (now (table .entry)) (now (area .entry)) ⌝ }
 {
-    let refused = open_refusal(image, table, area);
-    if refused.number != 0 {
-        return refused;
+    let opening = open_refusal(refused, image, table, area);
+    if opening.number != 0 {
+        return opening;
     }
     if !words_good(area, table.len(), image::count(image)) {
         return image::Refusal::AREA;
@@ -327,7 +339,7 @@ pub fn call_refusal(image: &[u8], table: &[u32], area: &[u32]) -> image::Refusal
 pub fn ended_refusal(image: &[u8], table: &[u32], area: &[u32]) -> image::Refusal
     ensures { λ r. ⌜ r ≡ endedRefusal (now (image .entry)) (now (table .entry)) (now (area .entry)) ⌝ }
 {
-    let refused = call_refusal(image, table, area);
+    let refused = call_refusal(image::image_refusal(image), image, table, area);
     if refused.number != 0 {
         return refused;
     }

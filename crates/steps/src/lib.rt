@@ -33,7 +33,7 @@ pub enum Settled {
 pub fn open(image: &[u8], table: &[u32], area: &mut [u32]) -> image::Refusal
     ensures { λ r. ⌜ OpenSays (now (image .entry)) (now (table .entry)) (now (area .entry)) r (now (area .exit)) ⌝ }
 {
-    let refused = area::open_refusal(image, table, area);
+    let refused = area::open_refusal(image::image_refusal(image), image, table, area);
     if refused.number != 0 {
         return refused;
     }
@@ -45,7 +45,7 @@ pub fn open(image: &[u8], table: &[u32], area: &mut [u32]) -> image::Refusal
 fn step_refusal(image: &[u8], table: &[u32], area: &[u32], number: usize) -> image::Refusal
     ensures { λ r. ⌜ r ≡ stepRefusal (now (image .entry)) (now (table .entry)) (now (area .entry)) number ⌝ }
 {
-    let refused = area::call_refusal(image, table, area);
+    let refused = area::call_refusal(image::image_refusal(image), image, table, area);
     if refused.number != 0 {
         return refused;
     }

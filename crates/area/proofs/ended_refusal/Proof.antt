@@ -11,7 +11,7 @@ use Rattle.area.proofs.ended_refusal.Statement.{statement}
 use Rattle.area.proofs.ended_refusal.Tie as tie
 
 abbrev start : tie.Else1 → tie.Start
-start c = c .before .before .before .before .before .before
+start c = c .before .before .before .before .before .before .before
 
 abbrev first-of : tie.After-states-from → tie.Else1
 first-of c = c .before .before
@@ -46,6 +46,7 @@ pub ended-refusal-spec : {M : Type 1} → statement M
 ended-refusal-spec =
     tie.close
     (tie.spec
+    (λ c κs. search needs)
     (λ c κs. search needs)
     returns
     (λ c κs. search needs)

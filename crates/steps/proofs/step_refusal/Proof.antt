@@ -12,7 +12,7 @@ use Rattle.steps.proofs.step_refusal.Statement.{statement}
 use Rattle.steps.proofs.step_refusal.Tie as tie
 
 abbrev start : tie.Else1 → tie.Start
-start c = c .before .before .before .before .before .before
+start c = c .before .before .before .before .before .before .before
 
 returns : tie.Need-returns
 unfolding stepRefusal
@@ -36,4 +36,4 @@ returns-3 c =
 
 pub step-refusal-spec : {M : Type 1} → statement M
 step-refusal-spec =
-    tie.close (tie.spec (λ c κs. search needs) returns (λ c κs. search needs) returns-2 returns-3)
+    tie.close (tie.spec (λ c κs. search needs) (λ c κs. search needs) returns (λ c κs. search needs) returns-2 returns-3)
