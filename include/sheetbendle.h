@@ -32,7 +32,7 @@
  * frame down, as bench/run measures it on x86-64:
  *
  *     program   program_refusal   open   gather   settle   order   next_image
- *         128               128    144      848      288    1056          320
+ *         120               120    136      760      200     968          216
  *
  * Refusals. Every call may be lent anything: it checks first, in the order of the numbers below
  * (the next image: 1 to 7, 9, 21 to 24, 11, 10), and the first that holds is returned. A refused
