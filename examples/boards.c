@@ -9,7 +9,7 @@
  *     tools/cc examples/boards.c target/boards
  *     tools/run target/boards
  *
- * A number on the command line is the seed of programs and orders; without one it is 1, and
+ * A number on the command line is the seed of programs and orders; without one it is 13, and
  * examples/boards.txt is what is then printed. A board that differs is named, and the program fails.
  */
 #include <sheetbendle.h>
@@ -362,7 +362,7 @@ static void begin(uint64_t seed) {
 
 int main(int argc, char **argv) {
     char *end = NULL;
-    unsigned long seed = argc > 1 ? strtoul(argv[1], &end, 10) : 1;
+    unsigned long seed = argc > 1 ? strtoul(argv[1], &end, 10) : 13;
     if (argc > 2 || (argc == 2 && (end == argv[1] || *end != '\0'))) {
         fprintf(stderr, "usage: boards [SEED]\n");
         return EXIT_FAILURE;
