@@ -9,7 +9,7 @@ use borrow.Author.Tests.{leb-true, ltb-true, eqb-true, lt-ltb, le-ltb}
 use lib.ListN.{length}
 use lib.Dec.{leb, ltb, eqb}
 use Rattle.base.specs.Words.{every}
-use Rattle.base.proofs.Bools.{and-left, and-right}
+use Rattle.base.proofs.Bools.{and-left, and-both}
 use Rattle.base.proofs.Numbers.{every-at, every-false}
 use Rattle.base.proofs.Parts.{words-length}
 use Rattle.image.specs.Limits.{maxPrograms, instructionBytes, maxProgramBytes, headBytes}
@@ -34,57 +34,45 @@ lies-short image p l = omega (arith, lies-length image p l, l .short)
 -- ---- check 3: the programs of an image lie inside it, one after another
 
 module _ (image : List ℕ) (good : offsetsGood image ≡ true) where
-  offsets-end : offsetOf image (countOf image) ≡ length image
-  unfolding offsetsGood
-  offsets-end = eqb-true _ _ (and-right (holdsOffsets image && firstGood image && extentsGood image) (lastGood image) good)
-
-  extent : (p : ℕ) → p < countOf image → extentGood image p ≡ true
+  -- there is room for the offsets, each program's extent is good, and the last offset is the image's length
+  asked : (headBytes (countOf image) ≤ length image) × ((p : ℕ) → p < countOf image → extentGood image p ≡ true)
+      × (offsetOf image (countOf image) ≡ length image)
   unfolding offsetsGood extentsGood
+  asked =
+      let end = and-both (holdsOffsets image && firstGood image && extentsGood image) (lastGood image) good in
+      let each = and-both (holdsOffsets image && firstGood image) (extentsGood image) (end .0) in
+      let room = and-both (holdsOffsets image) (firstGood image) (each .0) in
+      (leb-true _ _ (room .0), every-at (countOf image) (λ p. extentGood image p) (each .1), eqb-true _ _ (end .1))
+
+  extent : (p : ℕ) → p < countOf image
+      → (offsetOf image p ≤ offsetOf image (p + 1)) × (bytesOf image p % instructionBytes ≡ 0) × (bytesOf image p ≤ maxProgramBytes)
+  unfolding extentGood
   extent p l =
-      every-at (countOf image) (λ p. extentGood image p)
-      (and-right (holdsOffsets image && firstGood image) (extentsGood image)
-      (and-left (holdsOffsets image && firstGood image && extentsGood image) (lastGood image) good))
-      p l
-
-  offsets-rise : (p : ℕ) → p < countOf image → offsetOf image p ≤ offsetOf image (p + 1)
-  unfolding extentGood
-  offsets-rise p l = leb-true _ _ (and-left (rises image p) (whole image p) (and-left (rises image p && whole image p) (short image p) (extent p l)))
-
-  extent-whole : (p : ℕ) → p < countOf image → bytesOf image p % instructionBytes ≡ 0
-  unfolding extentGood
-  extent-whole p l = eqb-true _ _ (and-right (rises image p) (whole image p) (and-left (rises image p && whole image p) (short image p) (extent p l)))
-
-  extent-short : (p : ℕ) → p < countOf image → bytesOf image p ≤ maxProgramBytes
-  unfolding extentGood
-  extent-short p l = leb-true _ _ (and-right (rises image p && whole image p) (short image p) (extent p l))
+      let all = and-both (rises image p && whole image p) (short image p) (asked .1 p l) in
+      let two = and-both (rises image p) (whole image p) (all .0) in
+      (leb-true _ _ (two .0), eqb-true _ _ (two .1), leb-true _ _ (all .1))
 
   rise-by : (k p : ℕ) → p + k ≤ countOf image → offsetOf image p ≤ offsetOf image (p + k)
   rise-by zero p l = rw add-zero (le-refl _)
   rise-by (suc k) p l =
       let below : p + k < countOf image = omega arith in
-      let step : offsetOf image (p + k) ≤ offsetOf image (p + k + 1) = offsets-rise (p + k) below in
+      let step : offsetOf image (p + k) ≤ offsetOf image (p + k + 1) = extent (p + k) below .0 in
       let e : p + suc k ≡ p + k + 1 = omega arith in
       rw e (le-trans (rise-by k p (le-of-lt below)) step)
 
   offsets-within : (p : ℕ) → p < countOf image → offsetOf image (p + 1) ≤ length image
   offsets-within p l =
       let e : p + 1 + (countOf image - (p + 1)) ≡ countOf image = omega arith in
-      rw (← offsets-end) (rw e at (rise-by (countOf image - (p + 1)) (p + 1) (omega arith)))
-
-  offsets-stand : (p : ℕ) → p < countOf image → headBytes (p + 1) ≤ length image
-  unfolding offsetsGood
-  offsets-stand p l =
-      let h : headBytes (countOf image) ≤ length image = leb-true _ _ (and-left (holdsOffsets image) (firstGood image) (and-left (holdsOffsets image && firstGood image) (extentsGood image) (and-left (holdsOffsets image && firstGood image && extentsGood image) (lastGood image) good))) in
-      omega arith
+      rw (← asked .2) (rw e at (rise-by (countOf image - (p + 1)) (p + 1) (omega arith)))
 
   pub lies : (p : ℕ) → p < countOf image → Lies image p
-  lies p l = record { stand = offsets-stand p l; rise = offsets-rise p l; within = offsets-within p l; short = extent-short p l }
+  lies p l = record { stand = omega (arith, asked .0); rise = extent p l .0; within = offsets-within p l; short = extent p l .2 }
 
   pub part-short : (p : ℕ) → p < countOf image → length (partOf image p) ≤ maxProgramBytes
   part-short p l = lies-short image p (lies p l)
 
   pub part-whole : (p : ℕ) → p < countOf image → length (partOf image p) % instructionBytes ≡ 0
-  part-whole p l = rw (lies-length image p (lies p l)) (extent-whole p l)
+  part-whole p l = rw (lies-length image p (lies p l)) (extent p l .1)
 
 -- ---- check 4: a program is good where each of its instructions is, and a bad one makes the check fail
 

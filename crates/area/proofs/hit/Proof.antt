@@ -1,18 +1,19 @@
 -- The loop's invariant: there is a hit among the cells that are left exactly if there is one among all. The measure is how many are left. Assumes nothing.
-use mathlib.Core.Path.{_≡_, refl, sym, _∙_}
+use mathlib.Core.Path.{_≡_, sym, _∙_}
 use Prim.Native.Nat.{_+_, _-_, _≤_, _<_}
 use native.Mathlib.Omega.{arith}
-use lib.ListN.{getD, drop}
+use lib.ListN.{getD}
 use borrow.Author.Needs.{needs}
 use Rattle.base.specs.Words.{words}
+use Rattle.base.proofs.Walks.{words-start}
 use Rattle.area.specs.Marks.{hit}
-use Rattle.area.proofs.Loops.{hit-found, hit-next, hit-end}
+use Rattle.area.proofs.Loops.{left, hit-found, hit-next, hit-end}
 use Rattle.area.proofs.hit.Statement.{statement}
 use Rattle.area.proofs.hit.Tie as tie
 
 abbrev Inv-loop : tie.InvT-loop
 Inv-loop area marks at count number i₀ i =
-    (i ≤ count) × (hit marks (drop i (words at count area)) number area ≡ hit marks (words at count area) number area)
+    (i ≤ count) × (hit marks (left at count area i) number area ≡ hit marks (words at count area) number area)
 
 abbrev μ-loop : tie.MeasureT-loop
 μ-loop area marks at count number i₀ i = count - i
@@ -23,7 +24,7 @@ there : (c : tie.In-loop Inv-loop μ-loop)
 there c = c .before .before .before .pre .before-at (c .before .loop .i) (c .loop-test .taken)
 
 loop-holds : tie.Need-loop-holds Inv-loop μ-loop
-loop-holds c = (omega arith, refl)
+loop-holds c = let a = c .before .args in (omega arith, rw (words-start (a .area .now) (a .at) (a .count)))
 
 cast-c : tie.Need-cast-c Inv-loop μ-loop
 cast-c c = omega (arith, c .shared-slice-known2 .given (c .before .before .before .before .args .at + c .before .before .loop .i))
@@ -56,7 +57,7 @@ loop-again c =
 returns-2 : tie.Need-returns-2 Inv-loop μ-loop
 returns-2 c =
     let l = c .before .loop in
-    sym (sym (l .inv .1) ∙ hit-end _ _ _ _ _ (c .before .before .before .pre) (l .i) (l .inv .0) (c .loop-test .left))
+    sym (sym (l .inv .1) ∙ hit-end _ _ _ _ _ (c .before .before .before .pre) (l .i) (c .loop-test .left))
 
 pub hit-spec : {M : Type 1} → statement M
 hit-spec =

@@ -2,25 +2,28 @@
 use mathlib.Core.Path.{_≡_, refl}
 use Prim.Native.Nat.{_+_, _-_, _≤_}
 use native.Mathlib.Omega.{arith}
-use lib.ListN.{length, drop, length-set}
+use lib.ListN.{length, length-set}
 use borrow.Author.Needs.{needs}
 use Rattle.base.specs.Words.{words}
+use Rattle.base.proofs.Walks.{words-start}
 use Rattle.area.specs.Marks.{storeAll}
-use Rattle.area.proofs.Loops.{storing-next, storing-end}
+use Rattle.area.proofs.Loops.{left, storing-next, storing-end}
 use Rattle.area.proofs.store_all.Statement.{statement}
 use Rattle.area.proofs.store_all.Tie as tie
 
 abbrev Inv-loop : tie.InvT-loop
 Inv-loop table₀ area cells values count i₀ table i =
     (i ≤ count) × (length table ≡ length table₀)
-    × (storeAll (drop i (words cells count area)) (drop i (words values count area)) table
+    × (storeAll (left cells count area i) (left values count area i) table
     ≡ storeAll (words cells count area) (words values count area) table₀)
 
 abbrev μ-loop : tie.MeasureT-loop
 μ-loop table₀ area cells values count i₀ table i = count - i
 
 loop-holds : tie.Need-loop-holds Inv-loop μ-loop
-loop-holds c = (omega arith, refl, refl)
+loop-holds c =
+    let a = c .args in
+    (omega arith, refl, rw (words-start (a .area .now) (a .cells) (a .count), words-start (a .area .now) (a .values) (a .count)))
 
 cast-c : tie.Need-cast-c Inv-loop μ-loop
 cast-c c = omega (arith, c .shared-slice-known .given (c .before .before .before .args .cells + c .before .before .loop .i))
@@ -44,7 +47,7 @@ loop-again c =
 returns : tie.Need-returns Inv-loop μ-loop
 returns c =
     let l = c .before .loop in
-    storing-end _ _ _ _ _ (c .before .before .pre) (l .i) (l .table) (l .inv .2) (l .inv .0) (c .loop-test .left)
+    storing-end _ _ _ _ _ (c .before .before .pre) (l .i) (l .table) (l .inv .2) (c .loop-test .left)
 
 pub store-all-spec : {M : Type 1} → statement M
 store-all-spec =

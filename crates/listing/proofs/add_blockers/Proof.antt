@@ -46,9 +46,6 @@ mul-blockers-2 c = omega (arith, few (c .before .before .before))
 element-write-blockers : tie.Need-element-write-blockers Inv-loop μ-loop
 element-write-blockers c = few (c .before .before .before)
 
-sub-rest : tie.Need-sub-rest Inv-loop μ-loop
-sub-rest c = omega arith
-
 loop-less : tie.Need-loop-less Inv-loop μ-loop
 loop-less c =
     let q = c .before .before .before in
@@ -84,7 +81,7 @@ add-blockers-spec =
     raised-requires
     mul-blockers-2
     element-write-blockers
-    sub-rest
+    (λ c. omega arith)
     loop-less
     loop-again
     returns)

@@ -40,9 +40,6 @@ returns c =
     let a = q .before .before .before .args in
     unseen-found (a .blockers .now) (a .left) (q .before .before .loop .rest) (q .before .before .loop .inv) (q .least .result) (q .least .ensures) (c .if1 .taken)
 
-sub-rest : tie.Need-sub-rest Inv-loop μ-loop
-sub-rest c = omega arith
-
 loop-less : tie.Need-loop-less Inv-loop μ-loop
 loop-less c =
     let q = c .before .before in
@@ -73,7 +70,7 @@ next-free-spec =
     shl-if1
     add-result
     returns
-    sub-rest
+    (λ c. omega arith)
     loop-less
     loop-again
     returns-2)
