@@ -6,3 +6,4 @@ pub mod Loops
 pub mod Places
 pub mod Cases
 pub mod CheckCases
+pub mod Unique

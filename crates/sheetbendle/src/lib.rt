@@ -31,7 +31,9 @@ pub use steps::gather;
 pub use steps::open;
 pub use steps::settle;
 
-// The most words that a work area has.
+// A program's slot in the work area, and the most words that an area has.
+pub const SLOT_WORDS: usize = slot::WORDS;
+
 pub const AREA_WORDS: usize = area::AREA_WORDS;
 
 // The states of a program, as an answer's numbers have them.

@@ -3,9 +3,6 @@ use borrow.Author.Needs.{needs}
 use Rattle.machine.proofs.Machine.skip_equal.Statement.{statement}
 use Rattle.machine.proofs.Machine.skip_equal.Tie as tie
 
-returns : tie.Need-returns
-returns c = cc
-
 pub skip-equal-spec : {M : Type 1} → statement M
 skip-equal-spec =
-    tie.close (tie.spec (λ c κs. search needs) (λ c κs. search needs) (λ c κs. search needs) returns)
+    tie.close (tie.spec (λ c κs. search needs) (λ c κs. search needs) (λ c κs. search needs) (λ c. cc))

@@ -3,9 +3,6 @@ use borrow.Author.Needs.{needs}
 use Rattle.machine.proofs.Machine.skip_less.Statement.{statement}
 use Rattle.machine.proofs.Machine.skip_less.Tie as tie
 
-returns : tie.Need-returns
-returns c = cc
-
 pub skip-less-spec : {M : Type 1} → statement M
 skip-less-spec =
-    tie.close (tie.spec (λ c κs. search needs) (λ c κs. search needs) (λ c κs. search needs) returns)
+    tie.close (tie.spec (λ c κs. search needs) (λ c κs. search needs) (λ c κs. search needs) (λ c. cc))
