@@ -4,11 +4,12 @@ use Prim.Native.Nat.{ℕ}
 use mathlib.Core.Path.{_≡_, refl}
 use mathlib.Core.List.{List, [], _∷_, _++_, map}
 use lib.ListN.{take, set, replicate}
-use Rattle.image.specs.Refusals.{Counted}
+use Rattle.image.specs.Refusals.{Counted, refusing}
 use Rattle.image.specs.Assembler as assembler
 use Rattle.image.specs.Assembler.{program, joined, image, store, reject, instruction}
 use Rattle.slot.specs.Log.{empty, layout}
-use Rattle.carry.specs.Next.{nextAnswer, nextOut, numbersOfNext}
+use Rattle.carry.specs.declared.Next.the-variants.{Refused, Length}
+use Rattle.carry.specs.Next.{nextAnswer, nextOut, numbersOfNext, NextSays}
 use Rattle.carry.specs.Opened.{opened}
 
 -- ---- how a case is written down
@@ -113,6 +114,12 @@ sizes-29-28-27 : map (λ k. called batch (5 ∷ []) (area (4 ∷ 5 ∷ 5 ∷ [])
     ∷ []
 unfolding opened
 sizes-29-28-27 = refl
+
+-- what the call's contract says of all this
+next-says : NextSays batch (5 ∷ []) (area (4 ∷ 5 ∷ 5 ∷ [])) (image 1 (four ∷ [])) (nines 29) (Length 28) (image 1 (two ∷ three ∷ four ∷ []) ++ (9 ∷ []))
+    × NextSays batch (5 ∷ []) (area (4 ∷ 5 ∷ 5 ∷ [])) (image 1 (four ∷ [])) (nines 27) (Refused (refusing 10)) (nines 27)
+unfolding opened
+next-says = (record { answer = refl; bytes = refl }, record { answer = refl; bytes = refl })
 
 -- the image of no programs: outputs of 6 and 5 bytes
 sizes-6-5 : map (λ k. called batch (5 ∷ []) (area (4 ∷ 4 ∷ 4 ∷ [])) (image 1 []) (nines k)) (6 ∷ 5 ∷ [])

@@ -2,13 +2,14 @@
 -- refusals' numbers. The numbers are literals, and each comparison has a case on both its sides. Assumes nothing.
 use Prim.Native.Nat.{ℕ, _+_, _-_}
 use mathlib.Core.Bool.{true, false}
-use mathlib.Core.Path.{_≡_, refl}
+use mathlib.Core.Path.{_≡_, refl, ap, _∙_}
 use mathlib.Core.List.{List, [], _∷_, _++_, map}
 use lib.ListN.{length, take, replicate}
+use denote.Ref.{RefT, now, ptr}
 use Rattle.image.specs.Limits.{maxPrograms, maxInstructions, registers, minCells, maxCells, instructionBytes, maxProgramBytes, headBytes, minBytes, maxBytes}
 use Rattle.image.specs.declared.Refusal.{Refusal}
 use Rattle.image.specs.Refusals as refusal
-use Rattle.image.specs.Image.{numberAt, headerOf, secondRule, offsetOf, partOf, refusalOf, programRefusalOf, programOf, startOf}
+use Rattle.image.specs.Image.{numberAt, headerOf, secondRule, offsetOf, partOf, refusalOf, programRefusalOf, programOf, startOf, ProgramSays, ProgramRefusalSays}
 use Rattle.image.specs.Opened.{opened}
 use Rattle.image.specs.Assembler.{instruction, end, set, reject, program, fields, image}
 use Rattle.image.specs.Bench.{example-1, example-2, example-3, empty}
@@ -139,6 +140,11 @@ second-length : refusals (laid (10 ∷ 14 ∷ 16 ∷ []) 6 ∷ laid (10 ∷ 14 �
 unfolding opened
 second-length = refl
 
+-- and that of the first of two, each with all else right: 2 bytes, 132 bytes, and an offset that falls
+first-length : refusals (laid (10 ∷ 12 ∷ 16 ∷ []) 6 ∷ laid (10 ∷ 142 ∷ 146 ∷ []) 136 ∷ laid (10 ∷ 6 ∷ 14 ∷ []) 4 ∷ []) ≡ 3 ∷ 3 ∷ 3 ∷ []
+unfolding opened
+first-length = refl
+
 -- "the last offset is the image's length": one more than it, right, one less
 last-offset : refusals (laid (8 ∷ 12 ∷ []) 3 ∷ laid (8 ∷ 12 ∷ []) 4 ∷ laid (8 ∷ 12 ∷ []) 5 ∷ []) ≡ 3 ∷ 0 ∷ 3 ∷ []
 unfolding opened
@@ -199,3 +205,13 @@ empty-on-a-refusal : (asked programOf ≡ [] ∷ [] ∷ [] ∷ [] ∷ (1 ∷ 1 �
     × (asked startOf ≡ 0 ∷ 0 ∷ 0 ∷ 0 ∷ 14 ∷ 0 ∷ 0 ∷ [])
 unfolding opened
 empty-on-a-refusal = (refl, refl)
+
+-- what the calls' contracts say of all this: of an image that holds the two, program 1 is handed back as its 8 bytes, from byte 14 on
+program-says : (i r : RefT (List ℕ)) → now i ≡ two → ProgramSays i 1 r → (now r ≡ 1 ∷ 1 ∷ 2 ∷ 1 ∷ 0 ∷ 0 ∷ 0 ∷ 0 ∷ []) × (ptr r ≡ (ptr i .0, 14 + ptr i .1))
+unfolding opened
+program-says i r e s =
+    (s .part .bytes-are ∙ ap (λ (x : List ℕ). programOf x 1) e, s .part .lies-at ∙ ap (λ (x : List ℕ). (ptr i .0, startOf x 1 + ptr i .1)) e)
+
+program-refusal-says : ProgramRefusalSays two 1 refusal.none × ProgramRefusalSays two 2 refusal.number × ProgramRefusalSays bad 0 refusal.instruction
+unfolding opened
+program-refusal-says = (record { answer = refl }, record { answer = refl }, record { answer = refl })

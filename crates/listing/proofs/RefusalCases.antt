@@ -4,9 +4,11 @@ use Prim.Native.Nat.{ℕ}
 use mathlib.Core.Path.{_≡_, refl}
 use mathlib.Core.List.{List, [], _∷_, _++_, map}
 use lib.ListN.{take, set, replicate}
-use Rattle.image.specs.Refusals.{Counted}
+use Rattle.image.specs.Refusals.{Counted, refusing}
 use Rattle.image.specs.Assembler.{instruction, program, image}
 use Rattle.image.specs.Bench.{x, y, z}
+use Rattle.listing.specs.declared.Listed.the-variants.{Refused, Count}
+use Rattle.listing.specs.Listing.{OrderSays}
 use Rattle.listing.specs.Opened.{opened}
 use Rattle.listing.proofs.Cases.{slot, committed, idle, area, batch, table, called, done, refused, nines, lists}
 
@@ -91,3 +93,10 @@ row-order : called (take 5 (bad 3)) [] overmarked (9 ∷ [])
     ≡ map (λ r. refused r (9 ∷ [])) (1 ∷ 2 ∷ 3 ∷ 4 ∷ 5 ∷ 6 ∷ 7 ∷ 9 ∷ 10 ∷ []) ++ (refused 12 (9 ∷ 9 ∷ []) ∷ [])
 unfolding opened
 row-order = refl
+
+-- what the call's contract says of all this
+order-says : OrderSays (batch (idle ∷ idle ∷ [])) table (area (idle ∷ idle ∷ [])) (6 ∷ 7 ∷ 8 ∷ []) (Count 2) (0 ∷ 1 ∷ 8 ∷ [])
+    × OrderSays (batch circle-of-two) table stuck (9 ∷ []) (Refused (refusing 10)) (9 ∷ [])
+    × OrderSays (batch circle-of-two) table stuck (9 ∷ 9 ∷ []) (Refused (refusing 12)) (9 ∷ 9 ∷ [])
+unfolding opened
+order-says = (record { answer = refl; entries = refl }, record { answer = refl; entries = refl }, record { answer = refl; entries = refl })

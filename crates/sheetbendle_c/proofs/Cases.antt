@@ -1,0 +1,55 @@
+-- Document 01, "What each refusal says", tried by computation on the calls for C: each number stands under its own name, and the memory is what the call
+-- leaves. Assumes nothing.
+use Prim.Native.Nat.{ℕ}
+use mathlib.Core.Path.{refl}
+use mathlib.Core.List.{List, [], _∷_, _++_}
+use lib.ListN.{replicate}
+use Rattle.image.specs.Refusals.{refusing, noCount, counted}
+use Rattle.image.specs.Assembler.{end, reject, program, image}
+use Rattle.image.specs.Opened as images
+use Rattle.area.specs.Sketch.{slot, area}
+use Rattle.steps.specs.Opened as steps
+use Rattle.listing.specs.Opened as listing
+use Rattle.carry.specs.Opened as carry
+use Rattle.sheetbendle_c.specs.Calls.{PartTells, ProgramRefusalTells, OpenTells, CountTells, GatherTells, SettleTells, OrderTells, NextTells}
+
+-- of two programs, number 1 begins at byte 14 and has 8 bytes; there is no number 2
+abbrev two : List ℕ
+two = image 2 (program (reject 7 ∷ []) ∷ program (end ∷ end ∷ []) ∷ [])
+
+program-tells : PartTells two 1 (record { start = 14; length = 8 }) × PartTells two 2 (record { start = 0; length = 0 })
+unfolding images.opened
+program-tells = (record { start = refl; extent = refl }, record { start = refl; extent = refl })
+
+program-refusal-tells : ProgramRefusalTells two 1 0 × ProgramRefusalTells two 2 8
+unfolding images.opened
+program-refusal-tells = (record { number = refl }, record { number = refl })
+
+-- "the order its count, the next image its length. A refusal returns its number, 0 for every other result"
+count-tells : CountTells (counted 28) (record { refusal = 0; count = 28 }) × CountTells (noCount (refusing 10)) (record { refusal = 10; count = 0 })
+count-tells = (record { refusal = refl; count = refl }, record { refusal = refl; count = refl })
+
+open-tells : OpenTells (image 0 []) (5 ∷ []) (7 ∷ 7 ∷ []) 0 (0 ∷ 0 ∷ []) × OpenTells (image 0 []) [] (7 ∷ 7 ∷ []) 5 (7 ∷ 7 ∷ [])
+unfolding steps.opened
+open-tells = (record { number = refl; area = refl }, record { number = refl; area = refl })
+
+-- one program on one cell: it rejects with 7; it has stored 60 and is committed, and listed; it is carried
+gather-tells : GatherTells (image 1 (program (reject 7 ∷ []) ∷ [])) (5 ∷ []) (replicate 102 0) 0 (record { refusal = 0; state = 2; detail = 7 })
+    (area (0 ∷ []) (0 ∷ []) (slot 2 7 [] [] [] ∷ []))
+unfolding steps.opened
+gather-tells = record { numbers = record { refusal = refl; state = refl; detail = refl }; area = refl }
+
+abbrev storing : ℕ → List ℕ
+storing state = area (1 ∷ []) (0 ∷ []) (slot state 0 [] (0 ∷ []) (60 ∷ []) ∷ [])
+
+settle-tells : SettleTells (image 1 ([] ∷ [])) (5 ∷ []) (storing 1) 0 (record { refusal = 0; state = 4; detail = 0 }) (60 ∷ []) (storing 4)
+unfolding steps.opened
+settle-tells = record { numbers = record { refusal = refl; state = refl; detail = refl }; table = refl; area = refl }
+
+order-tells : OrderTells (image 1 ([] ∷ [])) (5 ∷ []) (storing 4) (9 ∷ 9 ∷ []) (record { refusal = 0; count = 1 }) (0 ∷ 9 ∷ [])
+unfolding listing.opened
+order-tells = record { numbers = record { refusal = refl; count = refl }; entries = refl }
+
+next-tells : NextTells (image 1 ([] ∷ [])) (5 ∷ []) (storing 5) (image 2 []) (replicate 9 9) (record { refusal = 0; count = 8 }) (image 2 ([] ∷ []) ++ (9 ∷ []))
+unfolding carry.opened
+next-tells = record { numbers = record { refusal = refl; count = refl }; bytes = refl }
