@@ -299,7 +299,7 @@ fn room_refusal(n: usize, table: &[u32], area: &[u32]) -> image::Refusal
     image::Refusal::NONE
 }
 
-// Checks 1 to 6, of which 1 to 4 are made before: they need the stack that they need once, and not below this call's.
+// Checks 1 to 6. The caller makes 1 to 4 first and hands over what they said, so that their stack does not come on top of this one's.
 pub fn open_refusal(
     refused: image::Refusal,
     image: &[u8],
@@ -315,7 +315,7 @@ pub fn open_refusal(
     room_refusal(image::count(image), table, area)
 }
 
-// Checks 1 to 7, of which 1 to 4 are made before.
+// Checks 1 to 7, after the same four.
 pub fn call_refusal(
     refused: image::Refusal,
     image: &[u8],
