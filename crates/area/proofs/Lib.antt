@@ -1,4 +1,5 @@
 pub mod Views
+pub mod Marks
 pub mod Changes
 pub mod Checks
 pub mod Keeps

@@ -1,5 +1,5 @@
 -- Document 01, "The work area" and "The steps": what a mark says, how a program reserves, and its WAW, RAW and WAR by the marks. Assumes nothing.
-use Prim.Native.Nat.{ℕ, _+_}
+use Prim.Native.Nat.{ℕ, _+_, _-_}
 use mathlib.Core.Bool.{Bool, false, cond, _&&_, _||_}
 use mathlib.Core.List.{List, [], _∷_}
 use lib.ListN.{getD, set}
@@ -14,6 +14,10 @@ use Rattle.area.specs.Layout.{marksAt, listOf, storesOf, valuesOf}
 -- A mark is "0, or 1 + the smallest number of a gathered program that stores (reads) the cell".
 abbrev pub markOf : ℕ → ℕ
 markOf k = k + 1
+
+-- the program that a mark names, if it names one
+abbrev pub named : ℕ → ℕ
+named mark = mark - 1
 
 -- the list whose cells the marks of a kind name
 abbrev pub listFor : MarkKind → ListKind

@@ -6,8 +6,8 @@ ghost use Rattle.base.specs.Words.{words};
 ghost use Rattle.base.specs.Masks.{maskOf};
 ghost use Rattle.image.specs.Limits.{maxPrograms, maxCells};
 ghost use Rattle.image.specs.Image.{refusalOf};
-ghost use Rattle.area.specs.Layout.{areaWords, marksAt, slotStart, spanOf, listOf, stateOf, inGroup, withState};
-ghost use Rattle.area.specs.Marks.{lower, reserve, earlier, hit, depends, storedBy, committedTable};
+ghost use Rattle.area.specs.Layout.{areaWords, marksAt, slotStart, spanOf, listOf, stateOf, detailOf, inGroup, withState};
+ghost use Rattle.area.specs.Marks.{lower, reserve, earlier, named, hit, depends, storedBy, committedTable};
 ghost use Rattle.area.specs.Checks.{tableGood, allBelow, listGood, slotGood, slotsGood, wordsGood, statesFrom};
 ghost use Rattle.area.specs.Checks.{roomRefusal, openRefusal, callRefusal, endedRefusal, Measured, HasSlot, Slotted, Names, Storing};
 
@@ -18,7 +18,7 @@ pub enum MarkKind {
 }
 
 // Where the marks of a kind begin.
-fn marks_start(marks: MarkKind, cells: usize) -> usize
+pub fn marks_start(marks: MarkKind, cells: usize) -> usize
     ensures { λ r. ⌜ r ≡ marksAt marks cells ⌝ }
 {
     match marks {
@@ -64,7 +64,7 @@ pub fn span_of(area: &[u32], cells: usize, number: usize, list: slot::ListKind) 
 }
 
 // A mark that is 0 or larger becomes k.
-fn lowered(m: u32, k: u32) -> u32
+pub fn lowered(m: u32, k: u32) -> u32
     ensures { λ r. ⌜ r ≡ lower m k ⌝ }
 {
     if m == 0 {
@@ -91,13 +91,21 @@ fn reserve_cells(area: &mut [u32], marks: usize, at: usize, count: usize, number
 }
 
 // Whether a mark names a program earlier than number.
-fn earlier(m: u32, number: usize) -> bool
+pub fn earlier(m: u32, number: usize) -> bool
     ensures { λ r. ⌜ r ≡ earlier m number ⌝ }
 {
     if m == 0 {
         return false;
     }
     m as usize <= number
+}
+
+// The program that a mark names.
+pub fn named(m: u32) -> u32
+    requires { ⌜ 0 < m ⌝ }
+    ensures { λ r. ⌜ r ≡ named m ⌝ }
+{
+    m - 1
 }
 
 // Whether some cell of the list has such a mark.
@@ -179,6 +187,15 @@ pub fn state(area: &[u32], cells: usize, number: usize) -> u32
     ensures { λ r. ⌜ r ≡ stateOf cells number (now (area .entry)) ⌝ }
 {
     let at = slot_start(cells, number);
+    area[at]
+}
+
+// The program's detail.
+pub fn detail(area: &[u32], cells: usize, number: usize) -> u32
+    requires { ⌜ HasSlot cells number (now area) ⌝ }
+    ensures { λ r. ⌜ r ≡ detailOf cells number (now (area .entry)) ⌝ }
+{
+    let at = slot_start(cells, number) + slot::DETAIL;
     area[at]
 }
 

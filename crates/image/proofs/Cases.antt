@@ -167,6 +167,10 @@ named =
 numbers : map (λ r. r .number) named ≡ 0 ∷ 1 ∷ 2 ∷ 3 ∷ 4 ∷ 5 ∷ 6 ∷ 7 ∷ 8 ∷ 9 ∷ 10 ∷ 11 ∷ 12 ∷ []
 numbers = refl
 
+-- document 02, ask 3: "13 this program is not carried; 15 its detail is not the reason .."
+numbers-of-why : refusal.notCarried .number ∷ refusal.reason .number ∷ [] ≡ 13 ∷ 15 ∷ []
+numbers-of-why = refl
+
 -- "21–24: as 1–4, for the fresh image"
 numbers-of-fresh : map (λ r. refusal.ofFresh r .number) (refusal.imageSize ∷ refusal.header ∷ refusal.offsets ∷ refusal.instruction ∷ []) ≡ 21 ∷ 22 ∷ 23 ∷ 24 ∷ []
 numbers-of-fresh = refl

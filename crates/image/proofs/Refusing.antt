@@ -79,3 +79,13 @@ unless-either P r refused done p q = go (passes r) refl
     go : (b : Bool) → passes r ≡ b → P (cond b done (refused r))
     go true e = q (eqb-true _ _ e)
     go false e = p
+
+-- where the checks before have passed, the last one decides
+pub last-decides : {A : Type 0} (checks gives : Refusal) (holds : Bool) (refused : Refusal → A) (done : A) → checks .number ≡ 0 → (gives .number ≡ 0 → ⊥)
+    → cond holds done (refused gives) ≡ unless (after checks (check holds gives none)) refused done
+unfolding check unless
+last-decides {A} checks gives holds refused done e h = rw (eq-eqb (checks .number) 0 e) (go holds)
+  where
+    go : (b : Bool) → cond b done (refused gives) ≡ unless (check b gives none) refused done
+    go true = refl
+    go false = rw (ne-eqb (gives .number) 0 h)

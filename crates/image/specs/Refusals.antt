@@ -48,6 +48,13 @@ tooMany = refusing 11
 abbrev pub noOrder : Refusal
 noOrder = refusing 12
 
+-- document 02, ask 3
+abbrev pub notCarried : Refusal
+notCarried = refusing 13
+
+abbrev pub reason : Refusal
+reason = refusing 15
+
 -- "21–24: as 1–4, for the fresh image"
 abbrev pub ofFresh : Refusal → Refusal
 ofFresh r = refusing (20 + r .number)

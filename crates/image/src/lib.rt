@@ -92,6 +92,10 @@ impl Refusal {
 
     pub const NO_ORDER: Refusal = Refusal { number: 12 };
 
+    pub const NOT_CARRIED: Refusal = Refusal { number: 13 };
+
+    pub const REASON: Refusal = Refusal { number: 15 };
+
     // What a refusal of 1 to 4 adds to its number where the fresh image earns it.
     pub const FRESH: u32 = 20;
 }

@@ -11,7 +11,7 @@ use Rattle.image.specs.declared.Refusal.{Refusal}
 use Rattle.image.specs.Refusals as refusal
 use Rattle.image.specs.Refusals.{check, unless}
 use Rattle.image.specs.Image.{countOf}
-use Rattle.image.proofs.Refusing.{none-fails, none-after, first-refuses, refused-as}
+use Rattle.image.proofs.Refusing.{none-fails, none-after, first-refuses, refused-as, last-decides}
 use Rattle.slot.specs.declared.Group.the-variants.{Committed}
 use Rattle.area.specs.Layout.{inGroup, readsOf, storesOf}
 use Rattle.area.specs.Checks.{callRefusal, endedRefusal, Checked, Measured}
@@ -52,12 +52,8 @@ module _ (image t a list : List ℕ) where
   -- where checks 1 to 10 pass, 12 decides
   twelve : {A : Type 0} (refused : Refusal → A) (done : A) → listRefusal image t a list .number ≡ 0
       → cond (orderExists (length t) (countOf image) a) done (refused refusal.noOrder) ≡ unless (orderRefusal image t a list) refused done
-  unfolding orderRefusal check unless
-  twelve {A} refused done e = rw (eq-eqb (listRefusal image t a list .number) 0 e) (go (orderExists (length t) (countOf image) a))
-    where
-      go : (b : Bool) → cond b done (refused refusal.noOrder) ≡ unless (check b refusal.noOrder refusal.none) refused done
-      go true = refl
-      go false = refl
+  unfolding orderRefusal
+  twelve refused done e = last-decides (listRefusal image t a list) refusal.noOrder (orderExists (length t) (countOf image) a) refused done e (λ z. omega arith)
 
   pub order-done : listRefusal image t a list .number ≡ 0 → (n : ℕ) → n ≡ countOf image → (r : Listed) (list′ : List ℕ) → Lists (length t) n a list r list′
       → OrderSays image t a list r list′

@@ -1,6 +1,7 @@
-// The numbers of what gathering and settling answer: document 01, "What each refusal says".
+// The numbers of what gathering and settling answer (document 01, "What each refusal says") and of why a program was carried (document 02, ask 3).
 ghost use Rattle.steps.specs.Answers.{doneWith, refusedBy, numbersOfGathered, numbersOfSettled};
-ghost use Rattle.numbers.specs.Numbers.{Tells};
+ghost use Rattle.causes.specs.Why.{numbersFor, numbersOfWhy};
+ghost use Rattle.numbers.specs.Numbers.{Tells, CauseTells};
 
 // The refusal, or 0 with the slot's state and detail.
 #[repr(C)]
@@ -48,5 +49,52 @@ pub fn of_settled(answer: steps::Settled) -> StepNumbers
         steps::Settled::Refused(refusal) => refused(refusal),
         steps::Settled::Committed => done(steps::state_of(answer), steps::detail_of(answer)),
         steps::Settled::Carried(_) => done(steps::state_of(answer), steps::detail_of(answer)),
+    }
+}
+
+// The refusal, or 0 with the reason and its cause; the second pair is that of WAR.
+#[repr(C)]
+pub struct CauseNumbers {
+    pub refusal: u32,
+    pub reason: u32,
+    pub cell: u32,
+    pub program: u32,
+    pub war_cell: u32,
+    pub war_program: u32,
+}
+
+fn carried_for(reason: steps::Reason, cause: causes::Cause, war: causes::Cause) -> CauseNumbers
+    ensures { λ r. ⌜ CauseTells (numbersFor reason cause war) r ⌝ }
+{
+    CauseNumbers {
+        refusal: 0,
+        reason: steps::reason_number(reason),
+        cell: cause.cell,
+        program: cause.program,
+        war_cell: war.cell,
+        war_program: war.program,
+    }
+}
+
+// Of why a program was carried: reasons 1 and 2 leave the second pair 0.
+pub fn of_why(answer: causes::Why) -> CauseNumbers
+    ensures { λ r. ⌜ CauseTells (numbersOfWhy answer) r ⌝ }
+{
+    let none = causes::Cause {
+        cell: 0,
+        program: 0,
+    };
+    match answer {
+        causes::Why::Refused(refusal) => CauseNumbers {
+            refusal: refusal.number,
+            reason: 0,
+            cell: 0,
+            program: 0,
+            war_cell: 0,
+            war_program: 0,
+        },
+        causes::Why::Waw(cause) => carried_for(steps::Reason::Waw, cause, none),
+        causes::Why::Raw(cause) => carried_for(steps::Reason::Raw, cause, none),
+        causes::Why::RawWithWar(raw, war) => carried_for(steps::Reason::RawWithWar, raw, war),
     }
 }

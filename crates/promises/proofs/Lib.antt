@@ -1,4 +1,3 @@
-pub mod Sets
 pub mod MarkLaws
 pub mod Deciding
 pub mod Installing

@@ -7,12 +7,18 @@
 //   order        lists the committed programs in an order in which running them one after another gives the same table.
 //   next_image   makes the next batch's image: the carried programs, then those of a fresh image.
 //
+// Once all are settled, `why` says why a program was carried, and `comes_before` before whom a program comes that read a cell as it was.
 // Beside these, `program` hands back one program as a part of the image, and `program_refusal` says why it does not.
-// `second_rule` says whether Rule 2 is in force; `of_gathered` and `of_settled` give the numbers of an answer.
+// `second_rule` says whether Rule 2 is in force; `of_gathered`, `of_settled` and `of_why` give the numbers of an answer.
 // Every call answers for every input. A refusal carries its number from document 01 and changes nothing that was lent; 0 is none.
 pub use area::area_words;
 pub use carry::Next;
 pub use carry::next_image;
+pub use causes::Before;
+pub use causes::Cause;
+pub use causes::Why;
+pub use causes::comes_before;
+pub use causes::why;
 pub use image::Image;
 pub use image::Refusal;
 pub use image::program;
@@ -21,9 +27,11 @@ pub use image::second_rule;
 pub use listing::Listed;
 pub use listing::order;
 pub use machine::Run;
+pub use numbers::CauseNumbers;
 pub use numbers::StepNumbers;
 pub use numbers::of_gathered;
 pub use numbers::of_settled;
+pub use numbers::of_why;
 pub use steps::Gathered;
 pub use steps::Reason;
 pub use steps::Settled;

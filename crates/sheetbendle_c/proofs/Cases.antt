@@ -9,9 +9,10 @@ use Rattle.image.specs.Assembler.{end, reject, program, image}
 use Rattle.image.specs.Opened as images
 use Rattle.area.specs.Sketch.{slot, area}
 use Rattle.steps.specs.Opened as steps
+use Rattle.causes.specs.Opened as causes
 use Rattle.listing.specs.Opened as listing
 use Rattle.carry.specs.Opened as carry
-use Rattle.sheetbendle_c.specs.Calls.{PartTells, ProgramRefusalTells, OpenTells, CountTells, GatherTells, SettleTells, OrderTells, NextTells}
+use Rattle.sheetbendle_c.specs.Calls.{PartTells, ProgramRefusalTells, OpenTells, CountTells, GatherTells, SettleTells, WhyTells, OrderTells, NextTells}
 
 -- of two programs, number 1 begins at byte 14 and has 8 bytes; there is no number 2
 abbrev two : List ℕ
@@ -45,6 +46,18 @@ storing state = area (1 ∷ []) (0 ∷ []) (slot state 0 [] (0 ∷ []) (60 ∷ [
 settle-tells : SettleTells (image 1 ([] ∷ [])) (5 ∷ []) (storing 1) 0 (record { refusal = 0; state = 4; detail = 0 }) (60 ∷ []) (storing 4)
 unfolding steps.opened
 settle-tells = record { numbers = record { refusal = refl; state = refl; detail = refl }; table = refl; area = refl }
+
+-- two programs on one cell, which program 0 stores and program 1 reads; number 0 is not carried
+abbrev waited : List ℕ
+waited = area (1 ∷ []) (2 ∷ []) (slot 4 0 [] (0 ∷ []) (60 ∷ []) ∷ slot 5 2 (0 ∷ []) [] [] ∷ [])
+
+why-tells : WhyTells (image 1 ([] ∷ [] ∷ [])) (5 ∷ []) waited 1 (record { refusal = 0; reason = 2; cell = 0; program = 0; «war_cell» = 0; «war_program» = 0 })
+    × WhyTells (image 1 ([] ∷ [] ∷ [])) (5 ∷ []) waited 0 (record { refusal = 13; reason = 0; cell = 0; program = 0; «war_cell» = 0; «war_program» = 0 })
+unfolding causes.opened
+why-tells = (
+  record { numbers = record { refusal = refl; reason = refl; cell = refl; program = refl; war-cell = refl; war-program = refl } },
+  record { numbers = record { refusal = refl; reason = refl; cell = refl; program = refl; war-cell = refl; war-program = refl } },
+)
 
 order-tells : OrderTells (image 1 ([] ∷ [])) (5 ∷ []) (storing 4) (9 ∷ 9 ∷ []) (record { refusal = 0; count = 1 }) (0 ∷ 9 ∷ [])
 unfolding listing.opened

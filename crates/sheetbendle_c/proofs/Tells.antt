@@ -21,6 +21,8 @@ use Rattle.steps.specs.declared.Settled.{Settled}
 use Rattle.steps.specs.Answers.{numbersOfGathered, numbersOfSettled}
 use Rattle.steps.specs.Gathering.{GatherSays}
 use Rattle.steps.specs.Settling.{SettleSays}
+use Rattle.causes.specs.declared.answers.Why.{Why}
+use Rattle.causes.specs.Why.{numbersOfWhy, WhySays}
 use Rattle.listing.specs.declared.Listed.{Listed}
 use Rattle.listing.specs.declared.Listed.the-variants as listing
 use Rattle.listing.specs.Listing.{committedCount, orderOf, orderExists, listRefusal, orderRefusal, orderAnswer, numbersOfListed, OrderSays}
@@ -30,9 +32,10 @@ use Rattle.carry.specs.declared.Next.the-variants as carrying
 use Rattle.carry.specs.Next.{nextImage, nextRefusal, nextAnswer, numbersOfNext, NextSays}
 use Rattle.carry.proofs.Nexts.{next-good}
 use Rattle.numbers.specs.declared.StepNumbers.{StepNumbers}
-use Rattle.numbers.specs.Numbers.{Tells}
+use Rattle.numbers.specs.declared.CauseNumbers.{CauseNumbers}
+use Rattle.numbers.specs.Numbers.{Tells, CauseTells}
 use Rattle.sheetbendle_c.specs.declared.CountNumbers.{CountNumbers}
-use Rattle.sheetbendle_c.specs.Calls.{CountTells, GatherTells, SettleTells, OrderTells, NextTells}
+use Rattle.sheetbendle_c.specs.Calls.{CountTells, GatherTells, SettleTells, WhyTells, OrderTells, NextTells}
 
 -- ---- the numbers are the answer's
 
@@ -45,6 +48,10 @@ pub settle-tells : (image t a : List ℕ) (k : ℕ) (answer : Settled) (t′ a�
     → Tells (numbersOfSettled answer) r → SettleTells image t a k r t′ a′
 settle-tells image t a k answer t′ a′ r says tells =
     record { numbers = subst (λ (x : Settled). Tells (numbersOfSettled x) r) (says .answer) tells; table = says .table; area = says .area }
+
+pub why-tells : (image t a : List ℕ) (k : ℕ) (answer : Why) (r : CauseNumbers) → WhySays image t a k answer
+    → CauseTells (numbersOfWhy answer) r → WhyTells image t a k r
+why-tells image t a k answer r says tells = record { numbers = subst (λ (x : Why). CauseTells (numbersOfWhy x) r) (says .answer) tells }
 
 pub order-tells : (image t a list : List ℕ) (answer : Listed) (list′ : List ℕ) (r : CountNumbers) → OrderSays image t a list answer list′
     → CountTells (numbersOfListed answer) r → OrderTells image t a list r list′

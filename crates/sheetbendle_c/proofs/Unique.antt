@@ -3,11 +3,12 @@
 use mathlib.Core.List.{List}
 use Prim.Native.Nat.{ℕ}
 use denote.Ref.{now}
-use mathlib.Core.Path.{_≡_, sym, ap, _∙_}
+use mathlib.Core.Path.{_≡_, sym, _∙_}
 use Rattle.base.specs.Unique.{Unique}
 use Rattle.image.specs.Refusals.{Counted}
-use Rattle.numbers.proofs.Unique.{told-once}
+use Rattle.numbers.proofs.Unique.{told-once, cause-once}
 use Rattle.numbers.specs.declared.StepNumbers.{StepNumbers}
+use Rattle.numbers.specs.declared.CauseNumbers.{CauseNumbers}
 use Rattle.sheetbendle_c.specs.declared.PartNumbers.{PartNumbers}
 use Rattle.sheetbendle_c.specs.declared.CountNumbers.{CountNumbers}
 use Rattle.sheetbendle_c.specs.Calls.{PartTells, CountTells}
@@ -21,25 +22,19 @@ use Rattle.sheetbendle_c.proofs.sheetbendle_gather.Kinds as gather-kind
 use Rattle.sheetbendle_c.proofs.sheetbendle_gather.Reads as gather
 use Rattle.sheetbendle_c.proofs.sheetbendle_settle.Kinds as settle-kinds
 use Rattle.sheetbendle_c.proofs.sheetbendle_settle.Reads as settle
+use Rattle.sheetbendle_c.proofs.sheetbendle_why.Kinds as why-kinds
+use Rattle.sheetbendle_c.proofs.sheetbendle_why.Reads as why
 use Rattle.sheetbendle_c.proofs.sheetbendle_order.Kinds as order-kinds
 use Rattle.sheetbendle_c.proofs.sheetbendle_order.Reads as order
 use Rattle.sheetbendle_c.proofs.sheetbendle_next_image.Kinds as next-kinds
 use Rattle.sheetbendle_c.proofs.sheetbendle_next_image.Reads as next
 
 -- structs of numbers are equal where their numbers are
-abbrev part : ℕ → ℕ → PartNumbers
-part start length = record { start = start; length = length }
-
 part-once : (image : List ℕ) (k : ℕ) (x y : PartNumbers) → PartTells image k x → PartTells image k y → x ≡ y
-part-once image k x y p q =
-    ap (λ (s : ℕ). part s (x .length)) (p .start ∙ sym (q .start)) ∙ ap (λ (l : ℕ). part (y .start) l) (p .extent ∙ sym (q .extent))
-
-abbrev number : ℕ → ℕ → CountNumbers
-number refusal count = record { refusal = refusal; count = count }
+part-once image k x y p q = λ i. record { start = (p .start ∙ sym (q .start)) i; length = (p .extent ∙ sym (q .extent)) i }
 
 count-once : (n : Counted) (x y : CountNumbers) → CountTells n x → CountTells n y → x ≡ y
-count-once n x y p q =
-    ap (λ (r : ℕ). number r (x .count)) (p .refusal ∙ sym (q .refusal)) ∙ ap (λ (c : ℕ). number (y .refusal) c) (p .count ∙ sym (q .count))
+count-once n x y p q = λ i. record { refusal = (p .refusal ∙ sym (q .refusal)) i; count = (p .count ∙ sym (q .count)) i }
 
 pub program-unique : Unique {A = PartNumbers} 1 program-kinds.ps program-kinds.r (λ κs x s. x) program.Post
 program-unique κs a x y s t p q = part-once _ _ x y p q
@@ -56,6 +51,9 @@ gather-unique κs a x y s t p q = cc (told-once _ x y (p .numbers) (q .numbers))
 pub settle-unique : Unique {A = StepNumbers × List ℕ × List ℕ} 3 settle-kinds.ps settle-kinds.r
     (λ κs x s. (x, now (s .1 .0), now (s .1 .1 .0))) settle.Post
 settle-unique κs a x y s t p q = cc (told-once _ x y (p .numbers) (q .numbers))
+
+pub why-unique : Unique {A = CauseNumbers} 3 why-kinds.ps why-kinds.r (λ κs x s. x) why.Post
+why-unique κs a x y s t p q = cause-once _ x y (p .numbers) (q .numbers)
 
 pub order-unique : Unique {A = CountNumbers × List ℕ} 4 order-kinds.ps order-kinds.r (λ κs x s. (x, now (s .1 .1 .1 .0))) order.Post
 order-unique κs a x y s t p q = cc (count-once _ x y (p .numbers) (q .numbers))

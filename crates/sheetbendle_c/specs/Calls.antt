@@ -10,10 +10,12 @@ use Rattle.steps.specs.Answers.{numbersOfGathered, numbersOfSettled}
 use Rattle.steps.specs.Opening.{openArea}
 use Rattle.steps.specs.Gathering.{gatherAnswer, gatherArea}
 use Rattle.steps.specs.Settling.{settleAnswer, settleTable, settleArea}
+use Rattle.causes.specs.Why.{whyAnswer, numbersOfWhy}
 use Rattle.listing.specs.Listing.{orderAnswer, orderList, numbersOfListed}
 use Rattle.carry.specs.Next.{nextAnswer, nextOut, numbersOfNext}
 use Rattle.numbers.specs.declared.StepNumbers.{StepNumbers}
-use Rattle.numbers.specs.Numbers.{Tells}
+use Rattle.numbers.specs.declared.CauseNumbers.{CauseNumbers}
+use Rattle.numbers.specs.Numbers.{Tells, CauseTells}
 use Rattle.sheetbendle_c.specs.declared.PartNumbers.{PartNumbers}
 use Rattle.sheetbendle_c.specs.declared.CountNumbers.{CountNumbers}
 
@@ -42,6 +44,9 @@ pub record SettleTells (image t a : List ℕ) (k : ℕ) (r : StepNumbers) (t′ 
   pub numbers : Tells (numbersOfSettled (settleAnswer image t a k)) r
   pub table : t′ ≡ settleTable image t a k
   pub area : a′ ≡ settleArea image t a k
+
+pub record WhyTells (image t a : List ℕ) (k : ℕ) (r : CauseNumbers) : Type 0 where
+  pub numbers : CauseTells (numbersOfWhy (whyAnswer image t a k)) r
 
 pub record OrderTells (image t a list : List ℕ) (r : CountNumbers) (list′ : List ℕ) : Type 0 where
   pub numbers : CountTells (numbersOfListed (orderAnswer image t a list)) r

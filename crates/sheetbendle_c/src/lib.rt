@@ -3,7 +3,7 @@ ghost use Prim.Native.Nat.{_^_, _<_};
 ghost use Rattle.listing.specs.Listing.{numbersOfListed};
 ghost use Rattle.carry.specs.Next.{numbersOfNext};
 ghost use Rattle.sheetbendle_c.specs.Calls.{PartTells, ProgramRefusalTells, OpenTells, GatherTells, SettleTells};
-ghost use Rattle.sheetbendle_c.specs.Calls.{CountTells, OrderTells, NextTells};
+ghost use Rattle.sheetbendle_c.specs.Calls.{WhyTells, CountTells, OrderTells, NextTells};
 
 // Where a program's part of the image begins, and how long it is.
 #[repr(C)]
@@ -64,6 +64,18 @@ pub extern "C" fn sheetbendle_settle(
     ensures { λ r. ⌜ SettleTells (now (image .entry)) (now (table .entry)) (now (area .entry)) number r (now (table .exit)) (now (area .exit)) ⌝ }
 {
     numbers::of_settled(steps::settle(image, table, area, number))
+}
+
+#[no_mangle]
+pub extern "C" fn sheetbendle_why(
+    image: &[u8],
+    table: &[u32],
+    area: &[u32],
+    number: usize,
+) -> numbers::CauseNumbers
+    ensures { λ r. ⌜ WhyTells (now (image .entry)) (now (table .entry)) (now (area .entry)) number r ⌝ }
+{
+    numbers::of_why(causes::why(image, table, area, number))
 }
 
 // The numbers of the listed order's answer.

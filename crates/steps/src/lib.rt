@@ -42,7 +42,7 @@ pub fn open(image: &[u8], table: &[u32], area: &mut [u32]) -> image::Refusal
 }
 
 // Checks 1 to 8, which every step begins with.
-fn step_refusal(image: &[u8], table: &[u32], area: &[u32], number: usize) -> image::Refusal
+pub fn step_refusal(image: &[u8], table: &[u32], area: &[u32], number: usize) -> image::Refusal
     ensures { λ r. ⌜ r ≡ stepRefusal (now (image .entry)) (now (table .entry)) (now (area .entry)) number ⌝ }
 {
     let refused = area::call_refusal(image::image_refusal(image), image, table, area);
@@ -179,7 +179,7 @@ fn decide(second: bool, waw: bool, raw: bool, war: bool) -> Settled
 }
 
 // The decision on a program, by the marks.
-fn judge(image: &[u8], area: &[u32], cells: usize, number: usize) -> Settled
+pub fn judge(image: &[u8], area: &[u32], cells: usize, number: usize) -> Settled
     requires { ⌜ Slotted cells number (now area) ⌝ }
     ensures { λ r. ⌜ r ≡ verdict (now (image .entry)) cells number (now (area .entry)) ⌝ }
 {
@@ -209,7 +209,7 @@ fn judge(image: &[u8], area: &[u32], cells: usize, number: usize) -> Settled
 }
 
 // The reason's number in document 01.
-fn reason_number(reason: Reason) -> u32
+pub fn reason_number(reason: Reason) -> u32
     ensures { λ r. ⌜ r ≡ reasonNumber reason ⌝ }
 {
     match reason {

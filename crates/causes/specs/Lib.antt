@@ -1,0 +1,3 @@
+pub mod Causes
+pub mod Why
+pub mod Opened
