@@ -13,21 +13,30 @@ use Rattle.base.proofs.Bools.{known, clash, and-same}
 use Rattle.base.proofs.Counts.{count-ext}
 use Rattle.image.specs.Image.{countOf}
 use Rattle.slot.specs.declared.Group.the-variants.{Committed, Carried}
+use Rattle.slot.specs.declared.ListKind.{ListKind}
 use Rattle.slot.specs.States.{waiting, committed, carried, isCommitted, isCarried, isDone, isIn}
 use Rattle.machine.specs.declared.Run.{Run}
 use Rattle.machine.specs.declared.Run.the-variants.{Finished, Rejected, Faulted}
 use Rattle.machine.specs.Runs.{keeps, stateOfRun}
-use Rattle.area.specs.Layout.{areaWords, stateAt, stateOf, inGroup, readsOf, storesOf}
-use Rattle.area.specs.Checks.{Checked}
+use Rattle.area.specs.declared.MarkKind.{MarkKind}
+use Rattle.area.specs.Layout.{areaWords, stateAt, stateOf, detailOf, inGroup, readsOf, storesOf}
+use Rattle.area.specs.Marks.{listFor, depends}
+use Rattle.area.specs.Checks.{Checked, Slotted}
+use Rattle.area.proofs.Checks.{program-slotted}
+use Rattle.steps.specs.Settling.{verdict}
+use Rattle.causes.specs.Causes.{causeOf}
+use Rattle.causes.proofs.Search.{found-some}
 use Rattle.listing.specs.Listing.{committedCount, orderOf, orderExists}
 use Rattle.listing.proofs.Taken.{listed-ext}
-use Rattle.promises.specs.Paper.{Batch, batchOf, keepsStores, getsSettled, readSet, writeSet, touches, rule1, rule2, commits, stateAfter, tableAfter}
+use Rattle.promises.specs.Paper.{Batch, batchOf, keepsStores, getsSettled, readSet, writeSet, touches, rule1, rule2, commits, stateAfter, detailAfter, tableAfter}
 use Rattle.promises.specs.Laid.{World, all, paperWorld}
 use Rattle.promises.specs.History.{RunToEnd}
-use Rattle.promises.proofs.Deciding.{commits-keeps, settled-keeps}
-use Rattle.promises.proofs.Installing.{installed-length}
-use Rattle.promises.proofs.Stepping.{Opens, opens, checked-on}
-use Rattle.promises.proofs.Histories.{paper-end, paper-table, paper-state, paper-reads, paper-stores}
+use Rattle.promises.specs.Causes.{TrueCause}
+use Rattle.promises.proofs.Deciding.{commits-keeps, settled-keeps, decisionOn}
+use Rattle.promises.proofs.Installing.{installed-length, table-length}
+use Rattle.promises.proofs.Stepping.{Opens, opens, runs-fit, checked-on, verdict-on}
+use Rattle.promises.proofs.Causing.{cause-true}
+use Rattle.promises.proofs.Histories.{paper-end, paper-table, paper-state, paper-detail, paper-reads, paper-stores}
 use Rattle.promises.proofs.PaperOrder.{paperOrder, order-members, order-distinct, order-length}
 
 -- ---- how a program ends, by the paper
@@ -107,13 +116,18 @@ state-past : (T n k : ℕ) (a : List ℕ) → length a ≡ areaWords T n → n �
 unfolding stateOf
 state-past T n k a e l = List·getD-eq-default a 0 {n = stateAt T k} (omega arith)
 
--- all that is asked of the end here: the table is the paper's, the checks pass, and each slot tells its program's state, reads and stores
+-- all that is asked of the end here: the table is the paper's, the checks pass, each slot tells its program's state, detail, reads and stores, the marks
+-- decide as the paper does, and the cells that they show are those of the runs
 pub record PaperEnd (image t : List ℕ) (w : World) : Type 0 where
   pub table-is : w .table ≡ tableAfter (batchOf image t) t
   pub checks : Checked image (w .table) (w .area)
   pub state-is : (k : ℕ) → k < countOf image → stateOf (length t) k (w .area) ≡ stateAfter (batchOf image t) k
+  pub detail-is : (k : ℕ) → k < countOf image → detailOf (length t) k (w .area) ≡ detailAfter (batchOf image t) k
   pub reads-are : (k : ℕ) → k < countOf image → readsOf (length t) k (w .area) ≡ readSet (batchOf image t) k
   pub stores-are : (k : ℕ) → k < countOf image → storesOf (length t) k (w .area) ≡ writeSet (batchOf image t) k
+  pub decides : (k : ℕ) → k < countOf image → getsSettled (batchOf image t) k ≡ true → verdict image (length t) k (w .area) ≡ decisionOn (batchOf image t) k
+  pub causes : (k : ℕ) → k < countOf image → (l : ListKind) (m : MarkKind) → depends l m (length t) k (w .area) ≡ true
+      → TrueCause l (listFor m) (batchOf image t) k (causeOf l m (length t) k (w .area))
 
 paper-shows : (image t : List ℕ) → Opens image t → PaperEnd image t (paperWorld image t)
 paper-shows image t opens =
@@ -121,8 +135,14 @@ paper-shows image t opens =
       table-is = paper-table image t;
       checks = checked-on image t opens all all;
       state-is = paper-state image t (opens .accepted);
+      detail-is = paper-detail image t (opens .accepted);
       reads-are = paper-reads image t (opens .accepted);
       stores-are = paper-stores image t (opens .accepted);
+      decides = λ k l ran. verdict-on image t opens all all k l (λ j _. refl) ran;
+      causes = λ k l q m d.
+          let slotted : Slotted (length t) k (paperWorld image t .area) =
+          rw (table-length (batchOf image t) t all) at (program-slotted image _ _ (checked-on image t opens all all) k l) in
+          cause-true (batchOf image t) (length t) k (runs-fit image t (opens .accepted)) l q m (found-some q m (length t) k _ slotted d);
     }
 
 pub paper-ends : {image t : List ℕ} {w : World} → RunToEnd image t w → PaperEnd image t w

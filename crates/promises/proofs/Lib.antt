@@ -6,6 +6,7 @@ pub mod Views
 pub mod GatherStep
 pub mod SettleStep
 pub mod Stepping
+pub mod Causing
 pub mod Progress
 pub mod Playing
 pub mod Endings
@@ -23,3 +24,4 @@ pub mod Counting
 pub mod Sheet
 pub mod Refusing
 pub mod NextBatch
+pub mod WhyCarried

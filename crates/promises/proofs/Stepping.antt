@@ -175,6 +175,17 @@ module _ (image t : List ℕ) (o : Opens image t) where
 
     -- ---- settling
 
+    -- once everybody is gathered, the marks decide as the paper does
+    pub verdict-on : (k : ℕ) → k < n → ((j : ℕ) → j < n → G j ≡ true) → getsSettled b k ≡ true → verdict image T k area ≡ decisionOn b k
+    unfolding verdict
+    verdict-on k l all ran =
+        rw (
+          depends-on b G S T k fitting l all Stores Write,
+          depends-on b G S T k fitting l all Reads Write,
+          depends-on b G S T k fitting l all Stores Read,
+        )
+        (decided-is b k ran)
+
     -- who is settled after the call
     abbrev settledToo : ℕ → ℕ → Bool
     settledToo k = cond (every n G) (also k S) S
@@ -218,15 +229,8 @@ module _ (image t : List ℕ) (o : Opens image t) where
       all : (j : ℕ) → j < n → G j ≡ true
       all = every-at n G (s .everybody)
 
-      verdict-on : verdict image T k area ≡ decisionOn b k
-      unfolding verdict
-      verdict-on =
-          rw (
-            depends-on b G S T k fitting (s .number) all Stores Write,
-            depends-on b G S T k fitting (s .number) all Reads Write,
-            depends-on b G S T k fitting (s .number) all Stores Read,
-          )
-          (decided-is b k (s .ran))
+      settles-as : verdict image T k area ≡ decisionOn b k
+      settles-as = verdict-on k (s .number) all (s .ran)
 
       table-settled : settledTable (decisionOn b k) k area table ≡ tableOn b (also k S) t
       unfolding settledTable decisionOn
@@ -252,7 +256,7 @@ module _ (image t : List ℕ) (o : Opens image t) where
       where
         go : (asked k ≡ true) ⊎ (asked k ≡ false)
             → cond (asked k) (settledTable (verdict image T k area) k area table) table ≡ tableOn b (settledToo k) t
-        go (inl e) = let s = settling k e in rw (e, verdict-on k s, s .everybody) (table-settled k s)
+        go (inl e) = let s = settling k e in rw (e, settles-as k s, s .everybody) (table-settled k s)
         go (inr e) = rw e (table-ext b t S (settledToo k) (not-settling k e))
 
     pub settle-area-on : (k : ℕ) → settleArea image table area k ≡ areaOn b G (settledToo k) T
@@ -261,5 +265,5 @@ module _ (image t : List ℕ) (o : Opens image t) where
       where
         go : (asked k ≡ true) ⊎ (asked k ≡ false)
             → cond (asked k) (settledArea (verdict image T k area) T k area) area ≡ areaOn b G (settledToo k) T
-        go (inl e) = let s = settling k e in rw (e, verdict-on k s, s .everybody) (area-settled k s)
+        go (inl e) = let s = settling k e in rw (e, settles-as k s, s .everybody) (area-settled k s)
         go (inr e) = rw e (on-ext b G S G (settledToo k) T (λ _ _. refl) (not-settling k e))

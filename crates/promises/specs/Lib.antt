@@ -1,4 +1,5 @@
 pub mod Paper
+pub mod Causes
 pub mod Laid
 pub mod History
 pub mod Serial

@@ -1,0 +1,109 @@
+-- Document 02, ask 3: "For a batch made by these calls, prove it of the programs' own runs from the opening table." The conclusions speak of the paper's
+-- batch alone. Assumes nothing.
+use Prim.Native.Nat.{ℕ, _<_}
+use mathlib.Core.Path.{_≡_, refl, sym, ap, _∙_}
+use mathlib.Core.Logic.{_⊎_, inl, inr}
+use mathlib.Core.Bool.{Bool, true, false, not, cond, _&&_}
+use mathlib.Core.List.{List}
+use native.Mathlib.Omega.{arith}
+use lib.ListN.{length}
+use borrow.Author.Tests.{eq-eqb}
+use Rattle.base.proofs.Bools.{known, nots, and-both}
+use Rattle.image.specs.Refusals as refusal
+use Rattle.image.specs.Image.{countOf}
+use Rattle.image.proofs.Refusing.{fails, goes-on, first-refuses, first-passes, number-of, unless-done}
+use Rattle.slot.specs.declared.Group.the-variants as group
+use Rattle.slot.specs.declared.ListKind.the-variants.{Reads, Stores}
+use Rattle.area.specs.declared.MarkKind.the-variants.{Write, Read}
+use Rattle.area.specs.Layout.{detailOf, inGroup}
+use Rattle.area.proofs.Checks.{checked-is}
+use Rattle.steps.specs.declared.Reason.{Reason}
+use Rattle.steps.specs.declared.Reason.the-variants.{Waw, Raw, RawWithWar}
+use Rattle.steps.specs.declared.Settled.{Settled}
+use Rattle.steps.specs.declared.Settled.the-variants.{Committed, Carried}
+use Rattle.steps.specs.Answers.{reasonNumber, numbersOfSettled}
+use Rattle.steps.specs.Settling.{verdict}
+use Rattle.causes.specs.declared.answers.Why.{Why}
+use Rattle.causes.specs.declared.answers.Why.the-variants as why
+use Rattle.causes.specs.Why.{Shown, explained, isReason, explainedBy, askRefusal, carriedRefusal, holdsReason, whyRefusal, whyAnswer}
+use Rattle.causes.proofs.Refusals.{ask-passes}
+use Rattle.causes.proofs.Says.{verdict-shows}
+use Rattle.promises.specs.Paper.{Batch, batchOf, getsSettled, commits, reason}
+use Rattle.promises.specs.Laid.{World}
+use Rattle.promises.specs.History.{isOver, RunToEnd}
+use Rattle.promises.specs.Causes.{isCarriedIn, TrueOf}
+use Rattle.promises.proofs.Deciding.{decisionOn, decision-detail}
+use Rattle.promises.proofs.AtEnd.{PaperEnd, paper-ends, end-sized}
+use Rattle.promises.proofs.NextBatch.{carried-are}
+
+module _ (image t : List ℕ) (w : World) (run : RunToEnd image t w) (k : ℕ) (number : k < countOf image) where
+  abbrev b : Batch
+  b = batchOf image t
+
+  end : PaperEnd image t w
+  end = paper-ends run
+
+  -- ---- the checks
+
+  asks : refusal.none ≡ askRefusal image (w .table) (w .area) k
+  unfolding isOver
+  asks = ask-passes image (w .table) (w .area) k (checked-is image (w .table) (w .area) (end .checks)) number (run .over)
+
+  group-is : inGroup group.Carried (length (w .table)) (w .area) k ≡ isCarriedIn b k
+  unfolding isCarriedIn
+  group-is = rw (end-sized end) (carried-are image t w run k number)
+
+  module _ (carried : isCarriedIn b k ≡ true) where
+    ran : getsSettled b k ≡ true
+    unfolding isCarriedIn
+    ran = and-both (getsSettled b k) (not (commits b k)) carried .0
+
+    -- the decision is to carry it, and its slot says so
+    carried-for : decisionOn b k ≡ Carried (reason b k)
+    unfolding decisionOn isCarriedIn
+    carried-for = rw (nots (commits b k) (and-both (getsSettled b k) (not (commits b k)) carried .1))
+
+    decided-so : verdict image (length t) k (w .area) ≡ Carried (reason b k)
+    decided-so = end .decides k number ran ∙ carried-for
+
+    told-so : detailOf (length t) k (w .area) ≡ reasonNumber (reason b k)
+    told-so = end .detail-is k number ∙ (sym (decision-detail b k ran) ∙ ap (λ (v : Settled). numbersOfSettled v .detail) carried-for)
+
+    reason-holds : holdsReason image (length (w .table)) k (w .area) ≡ true
+    unfolding holdsReason isReason
+    reason-holds = rw (end-sized end, decided-so) (eq-eqb _ _ told-so)
+
+    not-refused : refusal.none ≡ whyRefusal image (w .table) (w .area) k
+    unfolding whyRefusal carriedRefusal
+    not-refused = first-passes (first-passes asks refl (goes-on _ (group-is ∙ carried) refl)) refl (goes-on _ reason-holds refl)
+
+    answered : whyAnswer image (w .table) (w .area) k ≡ explained (reason b k) (length t) k (w .area)
+    unfolding whyAnswer explainedBy
+    answered =
+        unless-done (whyRefusal image (w .table) (w .area) k) why.Refused _ (number-of (sym not-refused))
+        ∙ rw (end-sized end, decided-so)
+
+    -- ---- the causes
+
+    causes-true : (r : Reason) → reason b k ≡ r → Shown r (length t) k (w .area) → TrueOf b k (explained r (length t) k (w .area))
+    unfolding explained
+    causes-true Waw e s = (e, end .causes k number Stores Write s)
+    causes-true Raw e s = (e, end .causes k number Reads Write s)
+    causes-true RawWithWar e s = (e, end .causes k number Reads Write (s .0), end .causes k number Stores Read (s .1))
+
+  -- Every carried program gets its cause, and 13 is for the others: 15 never happens.
+  pub why-refuses : whyRefusal image (w .table) (w .area) k ≡ cond (isCarriedIn b k) refusal.none refusal.notCarried
+  unfolding whyRefusal carriedRefusal
+  why-refuses = go (known (isCarriedIn b k))
+    where
+      go : (isCarriedIn b k ≡ true) ⊎ (isCarriedIn b k ≡ false)
+          → whyRefusal image (w .table) (w .area) k ≡ cond (isCarriedIn b k) refusal.none refusal.notCarried
+      go (inl e) = sym (not-refused e) ∙ rw e
+      go (inr e) = sym (first-refuses _ (first-passes asks refl (fails _ (group-is ∙ e))) (λ z. omega arith)) ∙ rw e
+
+  -- "say the reason with its cause .. prove it of the programs' own runs from the opening table": the answer's reason is the paper's, its cell is the
+  -- lowest that this program's run and an earlier finished program's share so, and the program is the smallest of those for that cell.
+  pub why-true : isCarriedIn b k ≡ true → TrueOf b k (whyAnswer image (w .table) (w .area) k)
+  why-true carried =
+      rw (answered carried)
+      (causes-true carried (reason b k) refl (verdict-shows image (length t) k (w .area) _ (reason b k) refl (decided-so carried)))
