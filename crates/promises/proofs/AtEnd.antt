@@ -34,6 +34,7 @@ use Rattle.promises.specs.History.{RunToEnd}
 use Rattle.promises.specs.Causes.{TrueCause}
 use Rattle.promises.proofs.Deciding.{commits-keeps, settled-keeps, decisionOn}
 use Rattle.promises.proofs.Installing.{installed-length, table-length}
+use Rattle.promises.proofs.SettleStep.{depends-on}
 use Rattle.promises.proofs.Stepping.{Opens, opens, runs-fit, checked-on, verdict-on}
 use Rattle.promises.proofs.Causing.{cause-true}
 use Rattle.promises.proofs.Histories.{paper-end, paper-table, paper-state, paper-detail, paper-reads, paper-stores}
@@ -126,6 +127,7 @@ pub record PaperEnd (image t : List ℕ) (w : World) : Type 0 where
   pub reads-are : (k : ℕ) → k < countOf image → readsOf (length t) k (w .area) ≡ readSet (batchOf image t) k
   pub stores-are : (k : ℕ) → k < countOf image → storesOf (length t) k (w .area) ≡ writeSet (batchOf image t) k
   pub decides : (k : ℕ) → k < countOf image → getsSettled (batchOf image t) k ≡ true → verdict image (length t) k (w .area) ≡ decisionOn (batchOf image t) k
+  pub depends-is : (k : ℕ) → k < countOf image → (l : ListKind) (m : MarkKind) → depends l m (length t) k (w .area) ≡ touches l (listFor m) (batchOf image t) k
   pub causes : (k : ℕ) → k < countOf image → (l : ListKind) (m : MarkKind) → depends l m (length t) k (w .area) ≡ true
       → TrueCause l (listFor m) (batchOf image t) k (causeOf l m (length t) k (w .area))
 
@@ -139,6 +141,7 @@ paper-shows image t opens =
       reads-are = paper-reads image t (opens .accepted);
       stores-are = paper-stores image t (opens .accepted);
       decides = λ k l ran. verdict-on image t opens all all k l (λ j _. refl) ran;
+      depends-is = λ k l. depends-on (batchOf image t) all all (length t) k (runs-fit image t (opens .accepted)) l (λ j _. refl);
       causes = λ k l q m d.
           let slotted : Slotted (length t) k (paperWorld image t .area) =
           rw (table-length (batchOf image t) t all) at (program-slotted image _ _ (checked-on image t opens all all) k l) in

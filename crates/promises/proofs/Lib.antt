@@ -25,3 +25,5 @@ pub mod Sheet
 pub mod Refusing
 pub mod NextBatch
 pub mod WhyCarried
+pub mod ComesBefore
+pub mod CauseCases

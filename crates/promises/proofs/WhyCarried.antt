@@ -13,6 +13,7 @@ use Rattle.image.specs.Refusals as refusal
 use Rattle.image.specs.Image.{countOf}
 use Rattle.image.proofs.Refusing.{fails, goes-on, first-refuses, first-passes, number-of, unless-done}
 use Rattle.slot.specs.declared.Group.the-variants as group
+use Rattle.slot.specs.declared.ListKind.{ListKind}
 use Rattle.slot.specs.declared.ListKind.the-variants.{Reads, Stores}
 use Rattle.area.specs.declared.MarkKind.the-variants.{Write, Read}
 use Rattle.area.specs.Layout.{detailOf, inGroup}
@@ -23,7 +24,7 @@ use Rattle.steps.specs.declared.Settled.{Settled}
 use Rattle.steps.specs.declared.Settled.the-variants.{Committed, Carried}
 use Rattle.steps.specs.Answers.{reasonNumber, numbersOfSettled}
 use Rattle.steps.specs.Settling.{verdict}
-use Rattle.causes.specs.declared.answers.Why.{Why}
+use Rattle.causes.specs.declared.answers.Cause.{Cause}
 use Rattle.causes.specs.declared.answers.Why.the-variants as why
 use Rattle.causes.specs.Why.{Shown, explained, isReason, explainedBy, askRefusal, carriedRefusal, holdsReason, whyRefusal, whyAnswer}
 use Rattle.causes.proofs.Refusals.{ask-passes}
@@ -31,10 +32,19 @@ use Rattle.causes.proofs.Says.{verdict-shows}
 use Rattle.promises.specs.Paper.{Batch, batchOf, getsSettled, commits, reason}
 use Rattle.promises.specs.Laid.{World}
 use Rattle.promises.specs.History.{isOver, RunToEnd}
-use Rattle.promises.specs.Causes.{isCarriedIn, TrueOf}
+use Rattle.promises.specs.Causes.{isCarriedIn, TrueCause, TrueOf}
 use Rattle.promises.proofs.Deciding.{decisionOn, decision-detail}
 use Rattle.promises.proofs.AtEnd.{PaperEnd, paper-ends, end-sized}
 use Rattle.promises.proofs.NextBatch.{carried-are}
+
+-- a true cause is the only one
+pub one-cause : (mine theirs : ListKind) (b : Batch) (k : ℕ) (v u : Cause) → TrueCause mine theirs b k v → TrueCause mine theirs b k u → v ≡ u
+one-cause mine theirs b k v u p q =
+    let same-cell : v .cell ≡ u .cell =
+    omega (arith, p .lowest (u .cell) (u .program) (q .earlier) (q .own-cell) (q .its-cell), q .lowest (v .cell) (v .program) (p .earlier) (p .own-cell) (p .its-cell)) in
+    let same-program : v .program ≡ u .program =
+    omega (arith, p .smallest (u .program) (q .earlier) (rw (sym same-cell) at (q .its-cell)), q .smallest (v .program) (p .earlier) (rw same-cell at (p .its-cell))) in
+    λ i. record { cell = same-cell i; program = same-program i }
 
 module _ (image t : List ℕ) (w : World) (run : RunToEnd image t w) (k : ℕ) (number : k < countOf image) where
   abbrev b : Batch
@@ -45,7 +55,7 @@ module _ (image t : List ℕ) (w : World) (run : RunToEnd image t w) (k : ℕ) (
 
   -- ---- the checks
 
-  asks : refusal.none ≡ askRefusal image (w .table) (w .area) k
+  pub asks : refusal.none ≡ askRefusal image (w .table) (w .area) k
   unfolding isOver
   asks = ask-passes image (w .table) (w .area) k (checked-is image (w .table) (w .area) (end .checks)) number (run .over)
 

@@ -13,7 +13,9 @@ use Rattle.steps.specs.declared.Reason.the-variants as reason
 use Rattle.causes.specs.declared.answers.Cause.{Cause}
 use Rattle.causes.specs.declared.answers.Why.{Why}
 use Rattle.causes.specs.declared.answers.Why.the-variants as why
-use Rattle.promises.specs.Paper.{Batch, sets, keepsStores, getsSettled, commits, reason}
+use Rattle.causes.specs.declared.answers.Before.{Before}
+use Rattle.causes.specs.declared.answers.Before.the-variants as before
+use Rattle.promises.specs.Paper.{Batch, sets, keepsStores, getsSettled, raw, commits, reason}
 
 -- program k is carried: it is settled and does not commit
 unfoldable pub isCarriedIn : Batch → ℕ → Bool
@@ -47,6 +49,14 @@ TrueOf b k (why.Refused r) = ⊥
 TrueOf b k (why.Waw cause) = (reason b k ≡ reason.Waw) × TrueWaw b k cause
 TrueOf b k (why.Raw cause) = (reason b k ≡ reason.Raw) × TrueRaw b k cause
 TrueOf b k (why.RawWithWar raw war) = (reason b k ≡ reason.RawWithWar) × TrueRaw b k raw × TrueWar b k war
+
+-- ---- before whom a program comes
+
+-- the answer is no refusal: nobody, and then the program has no RAW, or the cause of its RAW
+abbrev pub TrueBefore : Batch → ℕ → Before → Type 0
+TrueBefore b k (before.Refused r) = ⊥
+TrueBefore b k before.Nobody = raw b k ≡ false
+TrueBefore b k (before.Program cause) = TrueRaw b k cause
 
 -- k stands behind i in a list
 unfoldable pub behind : (k i : ℕ) → List ℕ → Bool
