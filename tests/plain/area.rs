@@ -84,10 +84,24 @@ pub fn values(slot: &[u32]) -> &[u32] {
     &slot[VALUES..VALUES + slot[STORE_COUNT] as usize]
 }
 
+/// Check 9 of the calls that need a batch which is settled: "while any state is 0 or 1".
+pub fn check_settled(area: &[u32], cells: usize) -> Result<(), u32> {
+    if states(area, cells).any(|state| state <= GATHERED) {
+        Err(refusal::STATE)
+    } else {
+        Ok(())
+    }
+}
+
 /// The slot of a program, in an area on a table of so many cells.
 pub fn slot(area: &[u32], cells: usize, number: usize) -> &[u32] {
     let start = words(cells, number);
     &area[start..start + SLOT_WORDS]
+}
+
+/// "First T write marks, then T read marks."
+pub fn marks(area: &[u32], cells: usize) -> (&[u32], &[u32]) {
+    area[..2 * cells].split_at(cells)
 }
 
 /// The states of all programs, by number.
@@ -117,9 +131,9 @@ pub fn mark_of(number: usize) -> u32 {
     1 + number as u32
 }
 
-/// Whether a mark names an earlier program: one of a smaller number.
-pub fn names_earlier(mark: u32, number: usize) -> bool {
-    mark != 0 && mark < mark_of(number)
+/// The earlier program that a mark names, if it names one. "Earlier" means a smaller number.
+pub fn earlier_program(mark: u32, number: usize) -> Option<u32> {
+    (mark != 0 && mark < mark_of(number)).then(|| mark - mark_of(0))
 }
 
 /// One program's slot of 100 words.

@@ -7,6 +7,7 @@
 //! | `image.rs` | Sizes; The image: counts and offsets |
 //! | `machine.rs` | Instructions |
 //! | `area.rs` | The work area |
+//! | `dependencies.rs` | The steps: WAW, RAW and WAR |
 //! | `steps.rs` | The steps: opening, gathering, settling |
 //! | `order.rs` | The steps: listed order |
 //! | `next.rs` | The steps: next image |
@@ -14,6 +15,7 @@
 
 pub mod area;
 pub mod batch;
+mod dependencies;
 pub mod image;
 pub mod machine;
 mod next;

@@ -1,7 +1,7 @@
 //! The next image.
 //! Document 01, "The steps"; its checks go 1 to 7, 9, 21 to 24, 11, 10.
 
-use crate::area::{self, CARRIED, GATHERED};
+use crate::area::{self, CARRIED};
 use crate::image::{first_offset, Image, PROGRAMS};
 use crate::{refusal, Count};
 
@@ -19,9 +19,7 @@ fn next_image_checked(
     out: &mut [u8],
 ) -> Result<usize, u32> {
     let image = area::check(image, table, area)?;
-    if area::states(area, table.len()).any(|state| state <= GATHERED) {
-        return Err(refusal::STATE);
-    }
+    area::check_settled(area, table.len())?;
     let fresh = Image::check(fresh).map_err(|refusal| refusal::FRESH + refusal)?;
     let next = || {
         let carried = area::states(area, table.len()).enumerate().filter(|&(_, state)| state == CARRIED);

@@ -1,7 +1,7 @@
 //! The listed order.
 //! Document 01, "The steps"; checks 9, 10 and 12 of the order.
 
-use crate::area::{self, CELLS, COMMITTED, GATHERED};
+use crate::area::{self, CELLS, COMMITTED};
 use crate::image::PROGRAMS;
 use crate::{refusal, Count};
 
@@ -14,9 +14,7 @@ pub fn order(image: &[u8], table: &[u32], area: &[u32], list: &mut [u32]) -> Cou
 
 fn order_checked(image: &[u8], table: &[u32], area: &[u32], list: &mut [u32]) -> Result<usize, u32> {
     let image = area::check(image, table, area)?;
-    if area::states(area, table.len()).any(|state| state <= GATHERED) {
-        return Err(refusal::STATE);
-    }
+    area::check_settled(area, table.len())?;
     if list.len() < image.count() {
         return Err(refusal::TOO_SHORT);
     }

@@ -1,9 +1,9 @@
 //! Opening, gathering and settling.
 //! Document 01, "The steps"; checks 8 and 9 of gathering and settling.
 
-use crate::area::{
-    self, mark_of, names_earlier, Place, CARRIED, COMMITTED, FAULTED, GATHERED, REJECTED, WAITING,
-};
+use crate::area::{self, mark_of, Place};
+use crate::area::{CARRIED, COMMITTED, FAULTED, GATHERED, REJECTED, STATE, WAITING};
+use crate::dependencies::Dependencies;
 use crate::machine::{self, End};
 use crate::refusal::{self, DONE};
 use crate::Step;
@@ -82,40 +82,36 @@ fn settle_checked(
 ) -> Result<(u32, u32), u32> {
     let image = area::check(image, table, area)?;
     image.check_number(number)?;
-    let some_state_is_waiting = area::states(area, table.len()).any(|state| state == WAITING);
-    let mut place = Place::of(area, table.len(), number);
-    if some_state_is_waiting || place.slot.state() != GATHERED {
+    let cells = table.len();
+    let some_state_is_waiting = area::states(area, cells).any(|state| state == WAITING);
+    if some_state_is_waiting || area::slot(area, cells, number)[STATE] != GATHERED {
         return Err(refusal::STATE);
     }
-    Ok(match reason_to_carry(&place, image.rule(), number) {
-        Some(reason) => place.slot.decide(CARRIED, reason),
+    let reason = reason_to_carry(&Dependencies::of(area, cells, number), image.rule());
+    let Place { mut slot, .. } = Place::of(area, cells, number);
+    Ok(match reason {
+        Some(reason) => slot.decide(CARRIED, reason),
         None => {
             // "A committed program's stores go into the table at its settling, in the slot's order."
-            for (&cell, &value) in place.slot.stores().iter().zip(place.slot.values()) {
+            for (&cell, &value) in slot.stores().iter().zip(slot.values()) {
                 table[cell as usize] = value;
             }
-            place.slot.decide(COMMITTED, 0)
+            slot.decide(COMMITTED, 0)
         }
     })
 }
 
 /// "Rule 1 commits without WAW and without RAW. Rule 2 commits without WAW and not with both RAW
-/// and WAR." WAW: a stored cell's write mark names an earlier program. RAW: a read cell's write
-/// mark does. WAR: a stored cell's read mark does.
-fn reason_to_carry(place: &Place, rule: u8, number: usize) -> Option<u32> {
-    let Place { write_marks, read_marks, slot } = place;
-    if any_names_earlier(write_marks, slot.stores(), number) {
+/// and WAR."
+pub fn reason_to_carry(dependencies: &Dependencies, rule: u8) -> Option<u32> {
+    if dependencies.waw().next().is_some() {
         return Some(WAW);
     }
-    if !any_names_earlier(write_marks, slot.reads(), number) {
+    if dependencies.raw().next().is_none() {
         return None;
     }
     if rule == 1 {
         return Some(RAW);
     }
-    any_names_earlier(read_marks, slot.stores(), number).then_some(RAW_WITH_WAR)
-}
-
-fn any_names_earlier(marks: &[u32], cells: &[u32], number: usize) -> bool {
-    cells.iter().any(|&cell| names_earlier(marks[cell as usize], number))
+    dependencies.war().next().map(|_| RAW_WITH_WAR)
 }
