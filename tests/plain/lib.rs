@@ -1,5 +1,6 @@
-//! Document 01 once more, in plain Rust: an independent implementation that the tests, the vectors
-//! and the benchmark hold against the library. It was written from the document, not from the code.
+//! Documents 01 and 02 once more, in plain Rust: an independent implementation that the tests, the
+//! vectors and the benchmark hold against the library. It was written from the documents, not from
+//! the code.
 //!
 //! | file | section of document 01 |
 //! |---|---|
@@ -12,6 +13,10 @@
 //! | `order.rs` | The steps: listed order |
 //! | `next.rs` | The steps: next image |
 //! | `batch.rs` | Bench sheet: the program and what it prints |
+//!
+//! | file | request of document 02 |
+//! |---|---|
+//! | `why.rs` | 3, tell me why I was carried |
 
 pub mod area;
 pub mod batch;
@@ -22,11 +27,13 @@ mod next;
 mod order;
 pub mod refusal;
 pub mod steps;
+mod why;
 
 pub use image::{program, program_refusal};
 pub use next::next_image;
 pub use order::order;
 pub use steps::{gather, open, settle};
+pub use why::{why, Cause};
 
 /// What gathering and settling return: the slot's state and detail, or a refusal and two zeros.
 #[derive(Clone, Copy, Debug, PartialEq, Eq)]

@@ -1,5 +1,6 @@
 //! The refusals' numbers.
-//! Document 01, "What each refusal says": each constant is a row of that table.
+//! Document 01, "What each refusal says": each constant is a row of that table. 13 and 15 are
+//! document 02's, of request 3.
 
 /// Done.
 pub const DONE: u32 = 0;
@@ -19,7 +20,8 @@ pub const AREA_SIZE: u32 = 6;
 pub const AREA: u32 = 7;
 /// Program number n or more.
 pub const NUMBER: u32 = 8;
-/// Gathering: state not 0. Settling: some state 0, or this one's not 1. Order, next image: some state 0 or 1.
+/// Gathering: state not 0. Settling: some state 0, or this one's not 1. Order, next image, why: some state 0
+/// or 1.
 pub const STATE: u32 = 9;
 /// Order list under n entries; output shorter than the next image.
 pub const TOO_SHORT: u32 = 10;
@@ -27,5 +29,9 @@ pub const TOO_SHORT: u32 = 10;
 pub const TOO_MANY: u32 = 11;
 /// No order exists.
 pub const NO_ORDER: u32 = 12;
+/// This program is not carried.
+pub const NOT_CARRIED: u32 = 13;
+/// Its detail is not the reason that its slot, the marks and the rule give.
+pub const REASON: u32 = 15;
 /// "21–24: as 1–4, for the fresh image": what is added to the image's own number.
 pub const FRESH: u32 = 20;

@@ -1,4 +1,6 @@
-//! The independent implementation's own tests: the bench sheet, and every row of the refusals.
+//! The independent implementation's own tests: the bench sheet, every row of the refusals, and why a
+//! program was carried.
 
 mod bench_sheet;
 mod refusals;
+mod why;

@@ -5,7 +5,7 @@ use plain::area::{words, DETAIL, READS, READ_COUNT, SLOT_WORDS, STATE, STORES, S
 use plain::area::{CARRIED, COMMITTED, FAULTED, GATHERED, REJECTED, WAITING};
 use plain::refusal::{self, DONE};
 use plain::steps::{RAW, RAW_WITH_WAR, WAW};
-use plain::{gather, next_image, open, order, program, program_refusal, settle};
+use plain::{gather, next_image, open, order, program, program_refusal, settle, why, Cause};
 
 const CELLS: usize = 3;
 
@@ -41,6 +41,15 @@ impl Lent {
         lent
     }
 
+    /// The same batch, run: program 0 is committed, program 1 carried for RAW.
+    fn settled() -> Lent {
+        let mut lent = Lent::opened();
+        assert_eq!([lent.gather(0), lent.gather(1)], [DONE, DONE]);
+        assert_eq!([lent.settle(0), lent.settle(1)], [DONE, DONE]);
+        assert_eq!([*lent.slot_word(1, STATE), *lent.slot_word(1, DETAIL)], [CARRIED, RAW]);
+        lent
+    }
+
     fn slot_word(&mut self, number: usize, word: usize) -> &mut u32 {
         let place = words(self.table.len(), number) + word;
         &mut self.area[place]
@@ -68,6 +77,16 @@ impl Lent {
         })
     }
 
+    /// "A refusal returns its number, 0 for every other result."
+    fn why(&mut self, number: usize) -> u32 {
+        self.unless_refused(|lent| {
+            let cause = why(&lent.image, &lent.table, &lent.area, number);
+            let refusal = cause.refusal;
+            assert!(refusal == DONE || cause == Cause { refusal, ..Cause::default() });
+            refusal
+        })
+    }
+
     /// "A refusal changes no lent memory."
     fn unless_refused(&mut self, call: impl Fn(&mut Lent) -> u32) -> u32 {
         let before = (self.table.clone(), self.area.clone(), self.list.clone(), self.out.clone());
@@ -77,7 +96,7 @@ impl Lent {
         refusal
     }
 
-    /// All five calls that are lent image, table and area refuse with this number.
+    /// All six calls that are lent image, table and area refuse with this number.
     fn assert_all_refuse(mut self, refusal: u32) {
         assert_eq!(self.open(), refusal);
         self.assert_all_but_opening_refuse(refusal);
@@ -88,6 +107,7 @@ impl Lent {
         assert_eq!(self.settle(0), refusal);
         assert_eq!(self.order(), refusal);
         assert_eq!(self.next_image(), refusal);
+        assert_eq!(self.why(0), refusal);
     }
 }
 
@@ -129,8 +149,10 @@ fn names_are_the_documents_numbers() {
         refusal::TOO_SHORT,
         refusal::TOO_MANY,
         refusal::NO_ORDER,
+        refusal::NOT_CARRIED,
     ];
-    assert!(refusals.into_iter().eq(0..=12));
+    assert!(refusals.into_iter().eq(0..=13));
+    assert_eq!(refusal::REASON, 15);
     assert_eq!(refusal::FRESH, 20);
     assert_eq!([WAITING, GATHERED, REJECTED, FAULTED, COMMITTED, CARRIED], [0, 1, 2, 3, 4, 5]);
     assert_eq!([WAW, RAW, RAW_WITH_WAR], [1, 2, 3]);
@@ -144,7 +166,7 @@ fn row_0_done() {
     assert_eq!(lent.open(), DONE);
     assert_eq!([lent.gather(1), lent.gather(0)], [DONE, DONE]);
     assert_eq!([lent.settle(1), lent.settle(0)], [DONE, DONE]);
-    assert_eq!((lent.order(), lent.next_image()), (DONE, DONE));
+    assert_eq!((lent.order(), lent.next_image(), lent.why(1)), (DONE, DONE, DONE));
     assert_eq!(lent.table, [1, 5, 5]);
     assert_eq!(lent.list, [0, 9], "beyond the committed count the list is untouched");
     let next = image(2, &[vec![load(R1, R0)], vec![end()]]);
@@ -263,6 +285,8 @@ fn row_8_number() {
         assert_eq!(program_refusal(&two_programs(), number), refusal::NUMBER);
         assert_eq!(Lent::opened().gather(number), refusal::NUMBER);
         assert_eq!(Lent::opened().settle(number), refusal::NUMBER);
+        assert_eq!(Lent::opened().why(number), refusal::NUMBER);
+        assert_eq!(Lent::settled().why(number), refusal::NUMBER);
     }
 }
 
@@ -279,6 +303,22 @@ fn row_9_states() {
     for state in [WAITING, GATHERED] {
         assert_eq!(Lent::in_states([COMMITTED, state]).order(), refusal::STATE);
         assert_eq!(Lent::in_states([COMMITTED, state]).next_image(), refusal::STATE);
+    }
+}
+
+/// "9 while any state is 0 or 1", whoever's it is, and whatever why would say.
+#[test]
+fn row_9_while_one_program_is_not_settled() {
+    for state in [WAITING, GATHERED] {
+        for number in [0, 1] {
+            assert_eq!(Lent::in_states([COMMITTED, state]).why(number), refusal::STATE);
+            assert_eq!(Lent::in_states([state, COMMITTED]).why(number), refusal::STATE);
+        }
+        let mut lent = Lent::settled();
+        *lent.slot_word(0, STATE) = state;
+        assert_eq!(lent.why(1), refusal::STATE, "also when this program is carried");
+        *lent.slot_word(1, DETAIL) = WAW;
+        assert_eq!(lent.why(1), refusal::STATE, "also when its detail is wrong");
     }
 }
 
@@ -314,6 +354,59 @@ fn row_12_no_order() {
     assert_eq!(knot.order(), refusal::TOO_SHORT);
 }
 
+/// Rejected, faulted and committed programs are not carried, whatever their slots and details say.
+#[test]
+fn row_13_not_carried() {
+    for state in REJECTED..CARRIED {
+        assert_eq!(Lent::in_states([COMMITTED, state]).why(1), refusal::NOT_CARRIED);
+        let mut lent = Lent::settled();
+        *lent.slot_word(1, STATE) = state;
+        assert_eq!(lent.why(1), refusal::NOT_CARRIED, "state {state} with the slot of a carried program");
+    }
+    assert_eq!(Lent::settled().why(0), refusal::NOT_CARRIED);
+}
+
+#[test]
+fn row_15_a_detail_that_is_not_the_reason() {
+    assert_eq!(Lent::settled().why(1), DONE);
+    for detail in [0, WAW, RAW_WITH_WAR, 4, RAW + 256, u32::MAX] {
+        let mut lent = Lent::settled();
+        *lent.slot_word(1, DETAIL) = detail;
+        assert_eq!(lent.why(1), refusal::REASON, "detail {detail}");
+    }
+}
+
+/// RAW alone is a reason under Rule 1 only: the same slot and marks under another rule.
+#[test]
+fn row_15_looks_at_the_rule() {
+    for (rule, expected) in [(0, DONE), (1, DONE), (2, refusal::REASON)] {
+        let mut lent = Lent::settled();
+        lent.image[2] = rule;
+        assert_eq!(lent.why(1), expected, "rule {rule}");
+    }
+}
+
+/// "15 its detail is not the reason that its slot, the marks and the rule give": nor is any detail
+/// where they give none.
+#[test]
+fn row_15_no_reason_at_all() {
+    for detail in [0, WAW, RAW, RAW_WITH_WAR] {
+        let mut nothing_read = Lent::settled();
+        *nothing_read.slot_word(1, DETAIL) = detail;
+        *nothing_read.slot_word(1, READ_COUNT) = 0;
+        assert_eq!(nothing_read.why(1), refusal::REASON, "detail {detail}, nothing read");
+        for mark in [0, 2] {
+            let mut own_mark = Lent::settled();
+            *own_mark.slot_word(1, DETAIL) = detail;
+            own_mark.area[0] = mark;
+            assert_eq!(own_mark.why(1), refusal::REASON, "detail {detail}, mark {mark}");
+        }
+        let mut number_0 = Lent::in_states([CARRIED, CARRIED]);
+        *number_0.slot_word(0, DETAIL) = detail;
+        assert_eq!(number_0.why(0), refusal::REASON, "detail {detail}, program 0");
+    }
+}
+
 #[test]
 fn the_first_row_that_holds_decides() {
     assert_image_refused(&changed(|image| (image[2], image[4]) = (3, 0)), refusal::HEADER);
@@ -324,4 +417,8 @@ fn the_first_row_that_holds_decides() {
     assert_eq!(lent.order(), refusal::STATE);
     let mut lent = Lent { fresh: vec![], ..Lent::in_states([COMMITTED, WAITING]) };
     assert_eq!(lent.next_image(), refusal::STATE);
+    let mut lent = Lent::in_states([COMMITTED, WAITING]);
+    assert_eq!(lent.why(2), refusal::NUMBER);
+    lent.area[0] = 3;
+    assert_eq!(lent.why(2), refusal::AREA);
 }
