@@ -12,16 +12,20 @@
 //! | `steps.rs` | The steps: opening, gathering, settling |
 //! | `order.rs` | The steps: listed order |
 //! | `next.rs` | The steps: next image |
-//! | `batch.rs` | Bench sheet: the program and what it prints |
+//! | `input.rs` | Bench sheet: what the program reads and runs |
+//! | `batch.rs` | Bench sheet: what it prints |
 //!
 //! | file | request of document 02 |
 //! |---|---|
 //! | `why.rs` | 3, tell me why I was carried |
+//! | `explain.rs` | 3, the program that tells it in words |
 
 pub mod area;
 pub mod batch;
 mod dependencies;
+pub mod explain;
 pub mod image;
+mod input;
 pub mod machine;
 mod next;
 mod order;

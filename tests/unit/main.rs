@@ -1,6 +1,7 @@
-//! The independent implementation's own tests: the bench sheet, every row of the refusals, and why a
-//! program was carried.
+//! The independent implementation's own tests: the bench sheet, every row of the refusals, why a
+//! program was carried, and how the program `why` says it.
 
 mod bench_sheet;
+mod explain;
 mod refusals;
 mod why;
