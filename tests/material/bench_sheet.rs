@@ -1,8 +1,9 @@
 //! The bench sheet: each case as instructions, with what document 01 says comes of it.
 //! Document 01, "Bench sheet"; the examples of source 004 and V of source 000.
 
-use crate::assembler::{add, image, load, reject, set, skipequal, skipless, store, sub, Instruction};
+use crate::assembler::{add, image, load, reject, set, skipequal, skipless, store, sub};
 use crate::assembler::{R0, R1, R2, R3};
+use crate::case::{case, outcome, Case, Program};
 use plain::area::{CARRIED, COMMITTED, FAULTED, REJECTED};
 use plain::refusal;
 use plain::steps::{RAW, RAW_WITH_WAR, WAW};
@@ -12,25 +13,8 @@ pub const X: u16 = 0;
 pub const Y: u16 = 1;
 pub const Z: u16 = 2;
 
-/// A batch to run, and what comes of it: a refusal's number or an outcome.
-pub struct Case {
-    /// Its number on the sheet, with a letter where one case has two halves.
-    pub name: &'static str,
-    pub table: Vec<u32>,
-    pub image: Vec<u8>,
-    pub expected: Result<Outcome, u32>,
-}
-
-/// State and detail of each program, the listed order and the table at the end.
-pub struct Outcome {
-    pub slots: Vec<(u32, u32)>,
-    pub order: Vec<u32>,
-    pub table: Vec<u32>,
-}
-
-type Program = Vec<Instruction>;
-
-/// All cases, in the sheet's order.
+/// All cases, in the sheet's order. A name is the number on the sheet, with a letter where one case
+/// has two halves.
 pub fn cases() -> Vec<Case> {
     vec![
         case_01(),
@@ -51,14 +35,6 @@ pub fn cases() -> Vec<Case> {
         case_14a(),
         case_14b(),
     ]
-}
-
-fn case(name: &'static str, table: &[u32], rule: u8, programs: &[Program], expected: Outcome) -> Case {
-    Case { name, table: table.to_vec(), image: image(rule, programs), expected: Ok(expected) }
-}
-
-fn outcome(slots: &[(u32, u32)], order: &[u32], table: &[u32]) -> Outcome {
-    Outcome { slots: slots.to_vec(), order: order.to_vec(), table: table.to_vec() }
 }
 
 /// to = from.

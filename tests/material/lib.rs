@@ -1,5 +1,8 @@
-//! What the tests are made of: an assembler, the bench sheet's cases, and random programs.
+//! What the tests are made of: an assembler, the bench sheet's cases, the lessons' batches, and random
+//! programs.
 
 pub mod assembler;
 pub mod bench_sheet;
+pub mod case;
+pub mod lessons;
 pub mod random;

@@ -1,7 +1,10 @@
-//! Cases 1 to 14 of the bench sheet, run through the calls and through the batch program.
+//! Cases 1 to 14 of the bench sheet, run through the calls and through the batch program; and the
+//! lessons' batches, run through the calls.
 
 use material::assembler::input;
-use material::bench_sheet::{cases, Case, Outcome};
+use material::bench_sheet::cases;
+use material::case::{Case, Outcome};
+use material::lessons::lessons;
 use plain::area::{self, GATHERED};
 use plain::batch::printed;
 use plain::image::PROGRAMS;
@@ -39,19 +42,26 @@ fn named(name: &str) -> Case {
     cases().into_iter().find(|case| case.name == name).expect("the sheet has this case")
 }
 
+fn assert_comes_out_as_expected(case: &Case) {
+    match (run(case), &case.expected) {
+        (Ok((outcome, _)), Ok(expected)) => {
+            assert_eq!(outcome.slots, expected.slots, "case {}", case.name);
+            assert_eq!(outcome.order, expected.order, "case {}", case.name);
+            assert_eq!(outcome.table, expected.table, "case {}", case.name);
+        }
+        (Err(refusal), Err(expected)) => assert_eq!(refusal, *expected, "case {}", case.name),
+        _ => panic!("case {}: a refusal and an outcome", case.name),
+    }
+}
+
 #[test]
 fn every_case_comes_out_as_the_sheet_says() {
-    for case in cases() {
-        match (run(&case), &case.expected) {
-            (Ok((outcome, _)), Ok(expected)) => {
-                assert_eq!(outcome.slots, expected.slots, "case {}", case.name);
-                assert_eq!(outcome.order, expected.order, "case {}", case.name);
-                assert_eq!(outcome.table, expected.table, "case {}", case.name);
-            }
-            (Err(refusal), Err(expected)) => assert_eq!(refusal, *expected, "case {}", case.name),
-            _ => panic!("case {}: a refusal and an outcome", case.name),
-        }
-    }
+    cases().iter().for_each(assert_comes_out_as_expected);
+}
+
+#[test]
+fn every_lesson_comes_out_as_it_says() {
+    lessons().iter().for_each(assert_comes_out_as_expected);
 }
 
 #[test]

@@ -1,9 +1,10 @@
 //! Makes the stored vectors and the examples, the same on every machine.
 //! Usage: vectors FOLDER, which then holds crates/vectors/ and examples/ as the repository does.
 //!
-//! A pack holds inputs of the batch program: for each, 4 bytes of length (low byte first) and then
-//! its bytes. `crates/vectors/stdout` holds, for each pack and each of its inputs from number 0, a
-//! line with the pack's name and the number, and then what the batch program prints for it.
+//! A pack holds inputs of the programs `batch` and `why`: for each, 4 bytes of length (low byte first)
+//! and then its bytes. `crates/vectors/stdout` holds a page for each input: for each pack and each of
+//! its inputs from number 0, a line NAME NUMBER and then what `batch` prints for it. Behind all of
+//! these come the pages of `why`, in the same order: a line NAME why NUMBER and then what it prints.
 
 mod damaged;
 mod edge;
@@ -11,7 +12,8 @@ mod good;
 
 use material::assembler::input;
 use material::bench_sheet;
-use plain::batch::printed;
+use material::lessons::lessons;
+use plain::{batch, explain};
 use std::fs;
 use std::io;
 use std::path::Path;
@@ -23,27 +25,46 @@ fn main() -> io::Result<()> {
     write_examples(&folder.join("examples"))
 }
 
-fn write_packs(folder: &Path) -> io::Result<()> {
-    fs::create_dir_all(folder.join("data"))?;
-    let packs = [
+/// A pack's name and its inputs.
+type Pack = (&'static str, Vec<Vec<u8>>);
+
+fn packs() -> [Pack; 4] {
+    [
         ("bench", bench_inputs()),
         ("good", good::inputs()),
         ("edge", edge::inputs()),
         ("damaged", damaged::inputs()),
-    ];
-    let mut stdout = String::new();
+    ]
+}
+
+fn write_packs(folder: &Path) -> io::Result<()> {
+    fs::create_dir_all(folder.join("data"))?;
+    let packs = packs();
     for (name, inputs) in &packs {
-        let mut pack = Vec::new();
-        for (number, input) in inputs.iter().enumerate() {
-            pack.extend((input.len() as u32).to_le_bytes());
-            pack.extend(input);
-            stdout += &format!("{name} {number}\n{}", printed(input));
-        }
+        let pack = packed(inputs);
         fs::write(folder.join("data").join(format!("{name}.pack")), &pack)?;
         println!("{name}.pack: {} inputs, {} bytes", inputs.len(), pack.len());
     }
+    let stdout = pages(&packs, "", batch::printed) + &pages(&packs, " why", explain::printed);
     println!("stdout: {} lines, {} bytes", stdout.lines().count(), stdout.len());
     fs::write(folder.join("stdout"), stdout)
+}
+
+fn packed(inputs: &[Vec<u8>]) -> Vec<u8> {
+    let length = |input: &Vec<u8>| (input.len() as u32).to_le_bytes();
+    inputs.iter().flat_map(|input| [&length(input)[..], input].concat()).collect()
+}
+
+/// What a program prints for every input of every pack, each behind a line with the pack's name, the
+/// program's word and the input's number.
+fn pages(packs: &[Pack], word: &str, printed: impl Fn(&[u8]) -> String) -> String {
+    let mut pages = String::new();
+    for (name, inputs) in packs {
+        for (number, input) in inputs.iter().enumerate() {
+            pages += &format!("{name}{word} {number}\n{}", printed(input));
+        }
+    }
+    pages
 }
 
 /// The cases of the bench sheet, in its order.
@@ -51,13 +72,21 @@ fn bench_inputs() -> Vec<Vec<u8>> {
     bench_sheet::cases().iter().map(|case| input(&case.table, &case.image)).collect()
 }
 
-/// Each bench case as a file to run, and beside it what the batch program prints.
+/// Each case of the bench sheet and each lesson's batch as a file to run, and beside it what the
+/// programs print.
 fn write_examples(folder: &Path) -> io::Result<()> {
     fs::create_dir_all(folder)?;
     for case in bench_sheet::cases() {
-        let input = input(&case.table, &case.image);
-        fs::write(folder.join(format!("case-{}.txt", case.name)), printed(&input))?;
-        fs::write(folder.join(format!("case-{}.bin", case.name)), input)?;
+        write_example(folder, &format!("case-{}", case.name), &input(&case.table, &case.image))?;
+    }
+    for lesson in lessons() {
+        write_example(folder, lesson.name, &input(&lesson.table, &lesson.image))?;
     }
     Ok(())
+}
+
+fn write_example(folder: &Path, name: &str, input: &[u8]) -> io::Result<()> {
+    fs::write(folder.join(format!("{name}.bin")), input)?;
+    fs::write(folder.join(format!("{name}.txt")), batch::printed(input))?;
+    fs::write(folder.join(format!("{name}.why.txt")), explain::printed(input))
 }

@@ -1,0 +1,29 @@
+//! A worked case: a batch to run, with what is to come of it.
+
+use crate::assembler::{image, Instruction};
+
+pub type Program = Vec<Instruction>;
+
+/// A batch to run, and what comes of it: a refusal's number or an outcome.
+pub struct Case {
+    pub name: &'static str,
+    pub table: Vec<u32>,
+    pub image: Vec<u8>,
+    pub expected: Result<Outcome, u32>,
+}
+
+/// State and detail of each program, the listed order and the table at the end.
+pub struct Outcome {
+    pub slots: Vec<(u32, u32)>,
+    pub order: Vec<u32>,
+    pub table: Vec<u32>,
+}
+
+/// A case of these programs under a rule byte.
+pub fn case(name: &'static str, table: &[u32], rule: u8, programs: &[Program], expected: Outcome) -> Case {
+    Case { name, table: table.to_vec(), image: image(rule, programs), expected: Ok(expected) }
+}
+
+pub fn outcome(slots: &[(u32, u32)], order: &[u32], table: &[u32]) -> Outcome {
+    Outcome { slots: slots.to_vec(), order: order.to_vec(), table: table.to_vec() }
+}
