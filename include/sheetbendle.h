@@ -6,6 +6,7 @@
  *     sheetbendle_open         clears the work area
  *     sheetbendle_gather       once for each program, in any order: runs it, notes its reads and stores
  *     sheetbendle_settle       once for each program that is then gathered, in any order: commits or carries it
+ *     sheetbendle_why          as often as wanted, for a carried program: the reason, with its cause
  *     sheetbendle_order        the committed programs, as if they had run one after the other
  *     sheetbendle_next_image   the carried programs and the fresh ones, as the next batch
  *
@@ -31,8 +32,8 @@
  * outside it needs one function, memset. The deepest stack of each call in bytes, from the caller's
  * frame down, as bench/run measures it on x86-64:
  *
- *     program   program_refusal   open   gather   settle   order   next_image
- *         120               120    136      760      200     968          216
+ *     program   program_refusal   open   gather   settle   why   order   next_image
+ *         120               120    136      760      200     0     968          216
  *
  * Refusals. Every call may be lent anything: it checks first, in the order of the numbers below
  * (the next image: 1 to 7, 9, 21 to 24, 11, 10), and the first that holds is returned. A refused
@@ -46,14 +47,16 @@
  *      4    some instruction is bad                                                   all
  *      5    table of 0 or over 256 cells                                              all but program
  *      6    area is not 2T + 100n words                                               all but program
- *      7    a mark over n, a state over 5, a count over 32, or a cell of T or more    gather, settle, order,
- *           among the counted ones                                                    next_image
- *      8    program number n or more                                                  program, gather, settle
- *      9    gather: this state is not 0; settle: some state is 0, or this one is      gather, settle, order,
- *           not 1; order and next image: some state is 0 or 1                         next_image
+ *      7    a mark over n, a state over 5, a count over 32, or a cell of T or more    all but program, open
+ *           among the counted ones
+ *      8    program number n or more                                                  program, gather, settle, why
+ *      9    gather: this state is not 0; settle: some state is 0, or this one is      all but program, open
+ *           not 1; why, order and next image: some state is 0 or 1
  *     10    list under n entries; output shorter than the next image                  order, next_image
  *     11    carried plus fresh programs over 64                                       next_image
  *     12    no order exists (never for an area that these calls made on this image)   order
+ *     13    this program is not carried                                               why
+ *     15    its detail is not the reason that its slot, the marks and the rule give   why
  *     21-24 as 1 to 4, for the fresh image                                            next_image
  *
  * T is the number of cells and n the number of programs.
@@ -90,9 +93,9 @@ extern "C" {
 /*
  * The number of what this header declares: raised by every change of a signature, a state, a
  * refusal, a size or a place in memory. A program that was written for this one can ask for it:
- * #if SHEETBENDLE_VERSION != 1
+ * #if SHEETBENDLE_VERSION != 2
  */
-#define SHEETBENDLE_VERSION 1
+#define SHEETBENDLE_VERSION 2
 
 /* Limits. */
 #define SHEETBENDLE_PROGRAMS 64     /* the most programs of an image */
@@ -166,6 +169,8 @@ extern "C" {
 #define SHEETBENDLE_REFUSED_TOO_SHORT 10u
 #define SHEETBENDLE_REFUSED_TOO_MANY 11u
 #define SHEETBENDLE_REFUSED_NO_ORDER 12u
+#define SHEETBENDLE_REFUSED_NOT_CARRIED 13u
+#define SHEETBENDLE_REFUSED_REASON 15u
 #define SHEETBENDLE_REFUSED_FRESH_IMAGE_SIZE 21u
 #define SHEETBENDLE_REFUSED_FRESH_HEADER 22u
 #define SHEETBENDLE_REFUSED_FRESH_OFFSETS 23u
@@ -192,6 +197,15 @@ extern "C" {
 typedef struct {
     uint32_t refusal, state, detail;
 } sheetbendle_step;
+
+/*
+ * What why returns: the reason and its cause, a cell and an earlier program. They are those of WAW
+ * for reason 1 and those of RAW for reasons 2 and 3. Reason 3 has those of WAR too, in the last two
+ * members, which are 0 for the others.
+ */
+typedef struct {
+    uint32_t refusal, reason, cell, program, war_cell, war_program;
+} sheetbendle_cause;
 
 /* What the order and the next image return: a count of entries, a length in bytes. */
 typedef struct {
@@ -239,6 +253,17 @@ sheetbendle_step sheetbendle_settle(const uint8_t *image, size_t image_bytes,
                                     uint32_t *table, size_t cells,
                                     uint32_t *area, size_t words,
                                     size_t number);
+
+/*
+ * Says why a program was carried, once all are settled: for each dependency of the reason the lowest
+ * cell, by its number, that shows it, and the earlier program that this cell's mark names, which is
+ * the smallest that stores the cell (WAW, RAW) or reads it (WAR). Nothing that is lent changes.
+ * Returns the reason and its cause; or a refusal: 1 to 9, 13, 15.
+ */
+sheetbendle_cause sheetbendle_why(const uint8_t *image, size_t image_bytes,
+                                  const uint32_t *table, size_t cells,
+                                  const uint32_t *area, size_t words,
+                                  size_t number);
 
 /*
  * Lists the committed programs' numbers in an order in which they could have run one after the

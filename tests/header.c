@@ -1,10 +1,10 @@
 /*
- * The header's numbers are document 01's: each is written here once more, from the document, and compared when this is compiled. So is where each
+ * The header's numbers are the documents': each is written here once more, from document 01 or 02, and compared when this is compiled. So is where each
  * member of a returned struct lies: the archive counts on it.
  */
 #include <sheetbendle.h>
 
-#define IS(name, number) _Static_assert((name) == (number), #name " is not document 01's number")
+#define IS(name, number) _Static_assert((name) == (number), #name " is not the document's number")
 
 /* "Sizes". */
 IS(SHEETBENDLE_PROGRAMS, 64);
@@ -68,6 +68,10 @@ IS(SHEETBENDLE_REFUSED_FRESH_HEADER, 22);
 IS(SHEETBENDLE_REFUSED_FRESH_OFFSETS, 23);
 IS(SHEETBENDLE_REFUSED_FRESH_INSTRUCTION, 24);
 
+/* Document 02, request 3. */
+IS(SHEETBENDLE_REFUSED_NOT_CARRIED, 13);
+IS(SHEETBENDLE_REFUSED_REASON, 15);
+
 /* States, kinds of faults, reasons. */
 IS(SHEETBENDLE_WAITING, 0);
 IS(SHEETBENDLE_GATHERED, 1);
@@ -91,6 +95,14 @@ MEMBER(sheetbendle_step, refusal, 0, 4);
 MEMBER(sheetbendle_step, state, 4, 4);
 MEMBER(sheetbendle_step, detail, 8, 4);
 SIZE(sheetbendle_step, 12);
+
+MEMBER(sheetbendle_cause, refusal, 0, 4);
+MEMBER(sheetbendle_cause, reason, 4, 4);
+MEMBER(sheetbendle_cause, cell, 8, 4);
+MEMBER(sheetbendle_cause, program, 12, 4);
+MEMBER(sheetbendle_cause, war_cell, 16, 4);
+MEMBER(sheetbendle_cause, war_program, 20, 4);
+SIZE(sheetbendle_cause, 24);
 
 MEMBER(sheetbendle_count, refusal, 0, 4);
 MEMBER(sheetbendle_count, count, 4, 4);

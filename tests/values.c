@@ -1,7 +1,7 @@
 /*
- * Each of the seven functions is called through the header where the members of its answer are told apart: a member that lies in another's place, in the
+ * Each of the eight functions is called through the header where the members of its answer are told apart: a member that lies in another's place, in the
  * header or in the archive, is noticed here. So is a word of the area that does not lie where the header says. Every expected number is worked
- * out by hand from document 01.
+ * out by hand from documents 01 and 02.
  */
 #include <sheetbendle.h>
 #include <stdio.h>
@@ -64,6 +64,19 @@ static void is(const char *what, unsigned line, unsigned long got, unsigned long
         IS(step.detail, detail_);                \
     } while (0)
 
+#define CAUSE_IS(call, refusal_, reason_, cell_, program_, war_cell_, war_program_) \
+    do {                                                                            \
+        sheetbendle_cause cause = call;                                             \
+        IS(cause.refusal, refusal_);                                                \
+        IS(cause.reason, reason_);                                                  \
+        IS(cause.cell, cell_);                                                      \
+        IS(cause.program, program_);                                                \
+        IS(cause.war_cell, war_cell_);                                              \
+        IS(cause.war_program, war_program_);                                        \
+    } while (0)
+
+#define WHY_REFUSED(call, refusal_) CAUSE_IS(call, refusal_, 0, 0, 0, 0, 0)
+
 #define COUNT_IS(call, refusal_, count_)  \
     do {                                  \
         sheetbendle_count answer = call;  \
@@ -88,6 +101,60 @@ static void slot_is(size_t program, uint32_t state, uint32_t detail, uint32_t re
     IS(slot[SHEETBENDLE_SLOT_READS], read);
     IS(slot[SHEETBENDLE_SLOT_STORES], store);
     IS(slot[SHEETBENDLE_SLOT_VALUES], value);
+}
+
+/* A batch of its own for why, in which the members of a cause are five different numbers, none of them 0. */
+enum { CAUSE_CELLS = 7, CAUSE_PROGRAMS = 5, CAUSE_WORDS = SHEETBENDLE_AREA_WORDS(CAUSE_CELLS, CAUSE_PROGRAMS) };
+
+static uint8_t cause_image[] = {
+    CAUSE_PROGRAMS, 0, SHEETBENDLE_RULE_2, 0,
+    16, 0, 16, 0, 24, 0, 32, 0, 48, 0, 56, 0,
+    /* 0 is empty; 1 stores cell 5. */
+    SHEETBENDLE_OP_SET, 0, 0, 5,
+    SHEETBENDLE_OP_STORE, 0, 0, 0,
+    /* 2 reads cell 6. */
+    SHEETBENDLE_OP_SET, 0, 0, 6,
+    SHEETBENDLE_OP_LOAD, 1, 0, 0,
+    /* 3 copies cell 5 into cell 6: it reads what 1 stores and stores what 2 reads. */
+    SHEETBENDLE_OP_SET, 0, 0, 5,
+    SHEETBENDLE_OP_LOAD, 1, 0, 0,
+    SHEETBENDLE_OP_SET, 2, 0, 6,
+    SHEETBENDLE_OP_STORE, 2, 1, 0,
+    /* 4 stores cell 5, as 1 does. */
+    SHEETBENDLE_OP_SET, 0, 0, 5,
+    SHEETBENDLE_OP_STORE, 0, 0, 0,
+};
+
+static uint32_t cause_table[CAUSE_CELLS];
+static uint32_t cause_area[CAUSE_WORDS];
+
+#define CAUSE_LENT cause_image, sizeof cause_image, cause_table, CAUSE_CELLS, cause_area, CAUSE_WORDS
+
+/* Runs that batch under a rule, in number order. */
+static void run_cause_batch(uint8_t rule) {
+    size_t i;
+    cause_image[2] = rule;
+    IS(sheetbendle_open(CAUSE_LENT), SHEETBENDLE_DONE);
+    for (i = 0; i < CAUSE_PROGRAMS; i++)
+        STEP_IS(sheetbendle_gather(CAUSE_LENT, i), SHEETBENDLE_DONE, SHEETBENDLE_GATHERED, 0);
+    for (i = 0; i < CAUSE_PROGRAMS; i++)
+        IS(sheetbendle_settle(CAUSE_LENT, i).refusal, SHEETBENDLE_DONE);
+}
+
+/* Each reason and each of why's own refusals. */
+static void causes(void) {
+    uint32_t *detail = cause_area + SHEETBENDLE_SLOT(CAUSE_CELLS, 3) + SHEETBENDLE_SLOT_DETAIL;
+
+    run_cause_batch(SHEETBENDLE_RULE_2);
+    CAUSE_IS(sheetbendle_why(CAUSE_LENT, 3), SHEETBENDLE_DONE, SHEETBENDLE_RAW_WITH_WAR, 5, 1, 6, 2);
+    CAUSE_IS(sheetbendle_why(CAUSE_LENT, 4), SHEETBENDLE_DONE, SHEETBENDLE_WAW, 5, 1, 0, 0);
+    WHY_REFUSED(sheetbendle_why(CAUSE_LENT, CAUSE_PROGRAMS), SHEETBENDLE_REFUSED_NUMBER);
+    WHY_REFUSED(sheetbendle_why(CAUSE_LENT, 2), SHEETBENDLE_REFUSED_NOT_CARRIED);
+    *detail = SHEETBENDLE_RAW;
+    WHY_REFUSED(sheetbendle_why(CAUSE_LENT, 3), SHEETBENDLE_REFUSED_REASON);
+
+    run_cause_batch(SHEETBENDLE_RULE_1);
+    CAUSE_IS(sheetbendle_why(CAUSE_LENT, 3), SHEETBENDLE_DONE, SHEETBENDLE_RAW, 5, 1, 0, 0);
 }
 
 int main(void) {
@@ -124,6 +191,7 @@ int main(void) {
     IS(slot[SHEETBENDLE_SLOT_DETAIL], 256 * SHEETBENDLE_FAULT_AT_STORE + 1);
 
     COUNT_IS(sheetbendle_order(LENT, list, PROGRAMS), SHEETBENDLE_REFUSED_STATE, 0);
+    WHY_REFUSED(sheetbendle_why(LENT, 2), SHEETBENDLE_REFUSED_STATE);
     STEP_IS(sheetbendle_settle(LENT, 2), SHEETBENDLE_DONE, SHEETBENDLE_CARRIED, SHEETBENDLE_RAW_WITH_WAR);
     STEP_IS(sheetbendle_settle(LENT, 3), SHEETBENDLE_DONE, SHEETBENDLE_COMMITTED, 0);
     STEP_IS(sheetbendle_settle(LENT, 0), SHEETBENDLE_DONE, SHEETBENDLE_COMMITTED, 0);
@@ -133,6 +201,10 @@ int main(void) {
     IS(table[1], 11);
     IS(table[2], 11);
     IS(table[3], 300);
+
+    CAUSE_IS(sheetbendle_why(LENT, 2), SHEETBENDLE_DONE, SHEETBENDLE_RAW_WITH_WAR, 2, 0, 1, 0);
+    WHY_REFUSED(sheetbendle_why(LENT, 4), SHEETBENDLE_REFUSED_NOT_CARRIED);
+    causes();
 
     COUNT_IS(sheetbendle_order(LENT, list, PROGRAMS - 1), SHEETBENDLE_REFUSED_TOO_SHORT, 0);
     COUNT_IS(sheetbendle_order(LENT, list, PROGRAMS), SHEETBENDLE_DONE, 2);
