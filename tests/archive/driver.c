@@ -10,7 +10,7 @@
 #include <stdio.h>
 #include <unistd.h>
 
-enum { PROGRAM, PROGRAM_REFUSAL, OPEN, GATHER, SETTLE, ORDER, NEXT_IMAGE };
+enum { PROGRAM, PROGRAM_REFUSAL, OPEN, GATHER, SETTLE, WHY, ORDER, NEXT_IMAGE };
 enum { TABLE, AREA, LIST, IMAGE, FRESH, OUT, BUFFERS };
 enum { NOTHING, STACK, INSTRUCTIONS };
 
@@ -18,13 +18,16 @@ enum { NOTHING, STACK, INSTRUCTIONS };
 #define LIMIT 60
 #define NO_LIMIT 0
 
+/* The most numbers that a call returns. */
+#define RESULTS 6
+
 /* Room for the largest buffers that are lent, with their guards. */
 #define ROOM (256 * 1024)
 
 static struct {
     uint64_t bytes; /* of the frame */
     uint64_t call, number, null_when_empty, measure;
-    uint64_t results[3], measured;
+    uint64_t results[RESULTS], measured;
     struct {
         uint64_t start, length; /* in bytes of the memory; in bytes or words */
     } lent[BUFFERS];
@@ -51,6 +54,13 @@ static void step_results(sheetbendle_step step) {
     results(step.refusal, step.state, step.detail);
 }
 
+static void cause_results(sheetbendle_cause cause) {
+    results(cause.refusal, cause.reason, cause.cell);
+    frame.results[3] = cause.program;
+    frame.results[4] = cause.war_cell;
+    frame.results[5] = cause.war_program;
+}
+
 static void count_results(sheetbendle_count count) {
     results(count.refusal, count.count, 0);
 }
@@ -67,6 +77,7 @@ static inline __attribute__((always_inline)) void make_call(void) {
     case OPEN: results(sheetbendle_open(LENT(IMAGE), LENT(TABLE), LENT(AREA)), 0, 0); break;
     case GATHER: step_results(sheetbendle_gather(LENT(IMAGE), LENT(TABLE), LENT(AREA), frame.number)); break;
     case SETTLE: step_results(sheetbendle_settle(LENT(IMAGE), LENT(TABLE), LENT(AREA), frame.number)); break;
+    case WHY: cause_results(sheetbendle_why(LENT(IMAGE), LENT(TABLE), LENT(AREA), frame.number)); break;
     case ORDER: count_results(sheetbendle_order(LENT(IMAGE), LENT(TABLE), LENT(AREA), LENT(LIST))); break;
     case NEXT_IMAGE:
         count_results(sheetbendle_next_image(LENT(IMAGE), LENT(TABLE), LENT(AREA), LENT(FRESH), LENT(OUT)));

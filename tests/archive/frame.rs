@@ -10,6 +10,7 @@ pub enum Call {
     Open,
     Gather,
     Settle,
+    Why,
     Order,
     NextImage,
 }
@@ -35,6 +36,10 @@ pub enum Measure {
     Instructions,
 }
 
+/// The numbers that a call returns, at most six; 0 behind the last.
+pub type Results = [u64; RETURNED];
+const RETURNED: usize = 6;
+
 pub type Lent<'a> = (Name, &'a mut dyn Carried);
 
 /// The words of the head.
@@ -44,8 +49,8 @@ const NUMBER: usize = 2;
 const NULL_WHEN_EMPTY: usize = 3;
 const MEASURE: usize = 4;
 const RESULTS: usize = 5;
-const MEASURED: usize = 8;
-const LENT: usize = 9;
+const MEASURED: usize = RESULTS + RETURNED;
+const LENT: usize = MEASURED + 1;
 const HEAD: usize = LENT + 2 * (Name::Out as usize + 1);
 
 /// A frame under way, and what the driver has said in it.
@@ -101,7 +106,7 @@ impl Frame {
         }
     }
 
-    pub fn results(&self) -> [u64; 3] {
+    pub fn results(&self) -> Results {
         std::array::from_fn(|place| self.head[RESULTS + place])
     }
 

@@ -8,8 +8,8 @@ mod frame;
 pub use buffer::{bytes, words, Buffer};
 pub use frame::Measure;
 
-use frame::{Call, Frame, Lent, Name};
-use plain::{Count, Step};
+use frame::{Call, Frame, Lent, Name, Results};
+use plain::{Cause, Count, Step};
 use std::io::{self, Read, Write};
 use std::ops::Range;
 use std::process::{Child, ChildStdin, ChildStdout, Command, Stdio};
@@ -42,7 +42,7 @@ impl Archive {
         Archive { driver, calls, answers, null_when_empty: false, measure: Measure::Nothing, measured: None }
     }
 
-    fn call(&mut self, call: Call, number: usize, lent: &mut [Lent]) -> [u64; 3] {
+    fn call(&mut self, call: Call, number: usize, lent: &mut [Lent]) -> Results {
         let mut frame = Frame::new(call, number, self.null_when_empty, self.measure, lent);
         let mut bytes = frame.to_bytes();
         if self.exchange(&mut bytes).is_err() {
@@ -67,7 +67,7 @@ impl Archive {
 impl Archive {
     /// Where the program lies in the image; 0..0 on a refusal.
     pub fn program(&mut self, image: &mut Buffer<u8>, number: usize) -> Range<usize> {
-        let [start, length, _] = self.call(Call::Program, number, &mut [(Name::Image, image)]);
+        let [start, length, ..] = self.call(Call::Program, number, &mut [(Name::Image, image)]);
         start as usize..start.wrapping_add(length) as usize
     }
 
@@ -99,6 +99,16 @@ impl Archive {
         step(self.batch_call(Call::Settle, image, table, area, number))
     }
 
+    pub fn why(
+        &mut self,
+        image: &mut Buffer<u8>,
+        table: &mut Buffer<u32>,
+        area: &mut Buffer<u32>,
+        number: usize,
+    ) -> Cause {
+        cause(self.batch_call(Call::Why, image, table, area, number))
+    }
+
     /// A call that is lent image, table and area alone.
     fn batch_call(
         &mut self,
@@ -107,7 +117,7 @@ impl Archive {
         table: &mut Buffer<u32>,
         area: &mut Buffer<u32>,
         number: usize,
-    ) -> [u64; 3] {
+    ) -> Results {
         self.call(call, number, &mut [(Name::Table, table), (Name::Area, area), (Name::Image, image)])
     }
 
@@ -144,14 +154,19 @@ impl Archive {
 
 // The driver widens each result of 32 bits without a change, so nothing is cut off here.
 
-fn refusal([refusal, ..]: [u64; 3]) -> u32 {
+fn refusal([refusal, ..]: Results) -> u32 {
     refusal as u32
 }
 
-fn step([refusal, state, detail]: [u64; 3]) -> Step {
+fn step([refusal, state, detail, ..]: Results) -> Step {
     Step { refusal: refusal as u32, state: state as u32, detail: detail as u32 }
 }
 
-fn count([refusal, count, _]: [u64; 3]) -> Count {
+fn cause(results: Results) -> Cause {
+    let [refusal, reason, cell, program, war_cell, war_program] = results.map(|result| result as u32);
+    Cause { refusal, reason, cell, program, war_cell, war_program }
+}
+
+fn count([refusal, count, ..]: Results) -> Count {
     Count { refusal: refusal as u32, count: count as u32 }
 }

@@ -1,8 +1,8 @@
-//! The seven calls, made on the independent implementation or on the archive.
+//! The eight calls, made on the independent implementation or on the archive.
 
 use crate::lent::Lent;
 use archive::Archive;
-use plain::{Count, Step};
+use plain::{Cause, Count, Step};
 use std::ops::Range;
 
 #[derive(Clone, Copy, Debug)]
@@ -12,6 +12,7 @@ pub enum Call {
     Open,
     Gather(usize),
     Settle(usize),
+    Why(usize),
     Order,
     NextImage,
 }
@@ -21,6 +22,7 @@ pub enum Answer {
     Part(Range<usize>),
     Refusal(u32),
     Step(Step),
+    Cause(Cause),
     Count(Count),
 }
 
@@ -34,6 +36,7 @@ pub fn on_plain(call: Call, lent: &mut Lent) -> Answer {
         Call::Open => Answer::Refusal(plain::open(image, table.lent(), area.lent_mut())),
         Call::Gather(number) => Answer::Step(plain::gather(image, table.lent(), area.lent_mut(), number)),
         Call::Settle(number) => Answer::Step(plain::settle(image, table.lent_mut(), area.lent_mut(), number)),
+        Call::Why(number) => Answer::Cause(plain::why(image, table.lent(), area.lent(), number)),
         Call::Order => Answer::Count(plain::order(image, table.lent(), area.lent(), list.lent_mut())),
         Call::NextImage => {
             Answer::Count(plain::next_image(image, table.lent(), area.lent(), fresh.lent(), out.lent_mut()))
@@ -50,6 +53,7 @@ pub fn on_archive(archive: &mut Archive, call: Call, lent: &mut Lent) -> Answer 
         Call::Open => Answer::Refusal(archive.open(image, table, area)),
         Call::Gather(number) => Answer::Step(archive.gather(image, table, area, number)),
         Call::Settle(number) => Answer::Step(archive.settle(image, table, area, number)),
+        Call::Why(number) => Answer::Cause(archive.why(image, table, area, number)),
         Call::Order => Answer::Count(archive.order(image, table, area, list)),
         Call::NextImage => Answer::Count(archive.next_image(image, table, area, fresh, out)),
     }

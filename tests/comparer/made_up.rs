@@ -3,11 +3,11 @@
 
 use material::assembler;
 use material::random::{self, Random, Shape};
-use plain::area::{
-    self, COMMITTED, GATHERED, READS, READ_COUNT, REJECTED, SLOT_WORDS, STATE, STORES, STORE_COUNT, WAITING,
-};
-use plain::area::{CARRIED, CELLS};
+use plain::area::{self, CARRIED, CELLS, COMMITTED, GATHERED, REJECTED, WAITING};
+use plain::area::{DETAIL, READS, READ_COUNT, SLOT_WORDS, STATE, STORES, STORE_COUNT};
 use plain::image::{INSTRUCTIONS, PROGRAMS};
+use plain::steps::RAW_WITH_WAR;
+use std::ops::Range;
 
 /// A number of cells: mostly few, so that programs meet.
 pub fn cells(random: &mut Random) -> usize {
@@ -44,14 +44,14 @@ pub fn junk(random: &mut Random, words: usize) -> Vec<u32> {
 }
 
 /// An area that passes check 7: marks up to n, states up to 5, counts up to 32, cells below T among
-/// the counted ones; everything else is junk.
+/// the counted ones; everything else is junk, but most details are a reason, right or wrong, or 0.
 pub fn area(random: &mut Random, cells: usize, programs: usize) -> Vec<u32> {
     let mut area = junk(random, area::words(cells, programs));
     let (marks, slots) = area.split_at_mut(2 * cells);
-    let marked = random.between(0, 100);
-    for mark in marks {
-        *mark = if random.percent(marked) { random.between(0, programs) as u32 } else { 0 };
-    }
+    let (read_cells, stored_cells) = reads_and_stores(random, cells);
+    marks.fill(0);
+    fill_marks(random, &mut marks[read_cells.clone()], programs);
+    fill_marks(random, &mut marks[cells..][stored_cells.clone()], programs);
     let (first_state, last_state) = random.pick(&[
         (WAITING, CARRIED),
         (WAITING, GATHERED),
@@ -65,17 +65,45 @@ pub fn area(random: &mut Random, cells: usize, programs: usize) -> Vec<u32> {
     let most = random.pick(&[0, 1, 1, 2, 3, INSTRUCTIONS]);
     for slot in slots.chunks_exact_mut(SLOT_WORDS) {
         slot[STATE] = random.between(first_state as usize, last_state as usize) as u32;
-        fill_log(random, slot, READ_COUNT, READS, most, cells);
-        fill_log(random, slot, STORE_COUNT, STORES, most, cells);
+        if random.percent(80) {
+            slot[DETAIL] = random.between(0, RAW_WITH_WAR as usize) as u32;
+        }
+        fill_log(random, slot, READ_COUNT, READS, most, read_cells.clone());
+        fill_log(random, slot, STORE_COUNT, STORES, most, stored_cells.clone());
     }
     area
 }
 
-/// A count, and so many cells below T. A cell may come twice.
-fn fill_log(random: &mut Random, slot: &mut [u32], count: usize, first: usize, most: usize, cells: usize) {
+/// The cells that are read, which have the write marks, and those that are stored, which have the read
+/// marks. Mostly all cells are both; otherwise they are two halves, where nothing but RAW and WAR shows.
+fn reads_and_stores(random: &mut Random, cells: usize) -> (Range<usize>, Range<usize>) {
+    if cells > 1 && random.percent(30) {
+        (0..cells / 2, cells / 2..cells)
+    } else {
+        (0..cells, 0..cells)
+    }
+}
+
+/// Marks up to n, on few cells or on many.
+fn fill_marks(random: &mut Random, marks: &mut [u32], programs: usize) {
+    let marked = random.between(0, 100);
+    for mark in marks {
+        *mark = if random.percent(marked) { random.between(0, programs) as u32 } else { 0 };
+    }
+}
+
+/// A count, and so many of these cells. A cell may come twice.
+fn fill_log(
+    random: &mut Random,
+    slot: &mut [u32],
+    count: usize,
+    first: usize,
+    most: usize,
+    cells: Range<usize>,
+) {
     let counted = random.between(0, most);
     slot[count] = counted as u32;
     for cell in &mut slot[first..first + counted] {
-        *cell = random.below(cells) as u32;
+        *cell = random.between(cells.start, cells.end - 1) as u32;
     }
 }

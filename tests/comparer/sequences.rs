@@ -78,6 +78,8 @@ fn play_made_up(random: &mut Random, pair: &mut Pair) -> Result<(), Difference> 
         renew_fresh_and_out(random, pair);
         pair.call(Call::Order)?;
         pair.call(Call::NextImage)?;
+        let why = why_carried(random, pair.lent());
+        pair.call(why)?;
         play(random, pair)?;
     }
     Ok(())
@@ -124,33 +126,43 @@ fn change_a_cell(random: &mut Random, pair: &mut Pair) {
     pair.lend(lent);
 }
 
-/// Gathers a waiting program; where none is, settles a gathered one; where none is, lists the order
-/// or makes the next image.
+/// Gathers a waiting program; where none is, settles a gathered one; where none is, lists the order,
+/// makes the next image, or asks why a program was carried.
 fn step_that_leads_on(random: &mut Random, lent: &Lent) -> Call {
-    let in_state = |wanted: u32| -> Vec<usize> {
-        let states = area::states(lent.area.lent(), lent.table.lent().len()).enumerate();
-        states.filter(|&(_, state)| state == wanted).map(|(number, _)| number).collect()
-    };
-    let (waiting, gathered) = (in_state(WAITING), in_state(GATHERED));
+    let (waiting, gathered) = (in_state(lent, WAITING), in_state(lent, GATHERED));
     if !waiting.is_empty() {
         Call::Gather(random.pick(&waiting))
     } else if !gathered.is_empty() {
         Call::Settle(random.pick(&gathered))
     } else {
-        random.pick(&[Call::Order, Call::NextImage])
+        let why = why_carried(random, lent);
+        random.pick(&[Call::Order, Call::NextImage, why, why])
     }
+}
+
+/// Asks why a carried program was carried; any program where none is.
+fn why_carried(random: &mut Random, lent: &Lent) -> Call {
+    let carried = in_state(lent, CARRIED);
+    Call::Why(if carried.is_empty() { number(random, programs(lent)) } else { random.pick(&carried) })
+}
+
+/// The numbers of the programs in a state.
+fn in_state(lent: &Lent, wanted: u32) -> Vec<usize> {
+    let states = area::states(lent.area.lent(), lent.table.lent().len()).enumerate();
+    states.filter(|&(_, state)| state == wanted).map(|(number, _)| number).collect()
 }
 
 /// Any call, on any program. An opening is rare, since it begins the batch anew.
 fn any_call(random: &mut Random, lent: &Lent) -> Call {
     let number = number(random, programs(lent));
-    match random.below(30) {
+    match random.below(36) {
         0 => Call::Open,
         1..=3 => Call::Program(number),
         4..=6 => Call::ProgramRefusal(number),
         7..=12 => Call::Gather(number),
         13..=18 => Call::Settle(number),
-        19..=23 => Call::Order,
+        19..=24 => Call::Why(number),
+        25..=29 => Call::Order,
         _ => Call::NextImage,
     }
 }
@@ -171,8 +183,7 @@ fn number(random: &mut Random, programs: usize) -> usize {
 fn renew_fresh_and_out(random: &mut Random, pair: &mut Pair) {
     let mut lent = pair.lent().clone();
     let cells = lent.table.lent().len();
-    let carried = area::states(lent.area.lent(), cells).filter(|&state| state == CARRIED).count();
-    let room = PROGRAMS - carried;
+    let room = PROGRAMS - in_state(&lent, CARRIED).len();
     let programs = random.pick(&[0, 1, 2, 3, 3, 3, room, room + 1]).min(PROGRAMS);
     let fresh = made_up::image(random, cells, programs);
     let out = &mut [0; LONGEST];

@@ -9,13 +9,15 @@ use plain::steps::{RAW, RAW_WITH_WAR, WAW};
 use std::collections::{BTreeMap, BTreeSet};
 use std::fmt;
 
-/// Each call with the refusals that it can give: document 01, "What each refusal says".
-fn refusals() -> [(&'static str, Vec<u32>); 7] {
+/// Each call with the refusals that it can give: document 01, "What each refusal says", and request 3
+/// of document 02.
+fn refusals() -> [(&'static str, Vec<u32>); 8] {
     let of_image = [refusal::IMAGE_SIZE, refusal::HEADER, refusal::OFFSETS, refusal::INSTRUCTION];
     let program = [&[DONE], &of_image[..], &[refusal::NUMBER]].concat();
     let open = [&[DONE], &of_image[..], &[refusal::TABLE_SIZE, refusal::AREA_SIZE]].concat();
     let later = [&open[..], &[refusal::AREA, refusal::STATE]].concat();
     let step = [&later[..], &[refusal::NUMBER]].concat();
+    let why = [&step[..], &[refusal::NOT_CARRIED, refusal::REASON]].concat();
     let order = [&later[..], &[refusal::TOO_SHORT, refusal::NO_ORDER]].concat();
     let of_fresh = of_image.map(|refusal| refusal::FRESH + refusal);
     let next_image = [&later[..], &[refusal::TOO_SHORT, refusal::TOO_MANY], &of_fresh].concat();
@@ -25,13 +27,14 @@ fn refusals() -> [(&'static str, Vec<u32>); 7] {
         ("open", open),
         ("gather", step.clone()),
         ("settle", step),
+        ("why", why),
         ("order", order),
         ("next_image", next_image),
     ]
 }
 
 /// What may come of a call that is done.
-const OUTCOMES: [&str; 11] = [
+const OUTCOMES: [&str; 14] = [
     "gathered",
     "rejected",
     "faulted at a load",
@@ -40,6 +43,9 @@ const OUTCOMES: [&str; 11] = [
     "carried for WAW",
     "carried for RAW",
     "carried for RAW with WAR",
+    "why: WAW",
+    "why: RAW",
+    "why: RAW with WAR",
     "order empty",
     "order rising",
     "order not rising",
@@ -91,6 +97,7 @@ fn name(call: Call) -> &'static str {
         Call::Open => "open",
         Call::Gather(_) => "gather",
         Call::Settle(_) => "settle",
+        Call::Why(_) => "why",
         Call::Order => "order",
         Call::NextImage => "next_image",
     }
@@ -102,6 +109,7 @@ fn refusal_of(call: Call, answer: &Answer, lent: &Lent) -> u32 {
         (Call::Program(number), _) => plain::program_refusal(lent.image.lent(), number),
         (_, Answer::Refusal(refusal)) => *refusal,
         (_, Answer::Step(step)) => step.refusal,
+        (_, Answer::Cause(cause)) => cause.refusal,
         (_, Answer::Count(count)) => count.refusal,
         (_, Answer::Part(_)) => unreachable!("only a program is a part"),
     }
@@ -110,6 +118,7 @@ fn refusal_of(call: Call, answer: &Answer, lent: &Lent) -> u32 {
 fn outcome(answer: &Answer, call: Call, lent: &Lent) -> Option<&'static str> {
     match (call, answer) {
         (_, Answer::Step(step)) => Some(outcome_of_step(step.state, step.detail)),
+        (_, Answer::Cause(cause)) => Some(outcome_of_why(cause.reason)),
         (Call::Order, Answer::Count(listed)) => Some(match &lent.list.lent()[..listed.count as usize] {
             [] => "order empty",
             order if order.is_sorted() => "order rising",
@@ -130,6 +139,15 @@ fn outcome_of_step(state: u32, detail: u32) -> &'static str {
         (CARRIED, RAW, _) => "carried for RAW",
         (CARRIED, RAW_WITH_WAR, _) => "carried for RAW with WAR",
         _ => unreachable!("no step ends so"),
+    }
+}
+
+fn outcome_of_why(reason: u32) -> &'static str {
+    match reason {
+        WAW => "why: WAW",
+        RAW => "why: RAW",
+        RAW_WITH_WAR => "why: RAW with WAR",
+        _ => unreachable!("no program is carried for anything else"),
     }
 }
 
