@@ -1,12 +1,13 @@
 //! A scenario's calls, made through the archive's driver, which measures them.
 
-use crate::scenarios::{gathered_programs, Scenario, Start, GATHER, NEXT_IMAGE, OPEN, ORDER, SETTLE};
+use crate::scenarios::{carried_programs, gathered_programs, Scenario, Start};
+use crate::scenarios::{GATHER, NEXT_IMAGE, OPEN, ORDER, SETTLE, WHY};
 use archive::{bytes, words, Archive, Measure};
 use plain::image::{LONGEST, PROGRAMS};
 use plain::refusal::DONE;
 
 /// Makes the calls, and notes the place in `CALLS` and the measure of each. Of the calls that are
-/// made once for each program only one in so many is measured.
+/// made once for each program, or for each carried one, only one in so many is measured.
 pub fn run(
     archive: &mut Archive,
     scenario: &Scenario,
@@ -38,6 +39,11 @@ pub fn run(
             archive.measure = chosen(place);
             let step = archive.settle(image, table, area, number);
             done(SETTLE, step.refusal, archive.measured);
+        }
+        for (place, number) in carried_programs(area.lent(), table.lent().len()).into_iter().enumerate() {
+            archive.measure = chosen(place);
+            let cause = archive.why(image, table, area, number);
+            done(WHY, cause.refusal, archive.measured);
         }
     }
     archive.measure = measure;

@@ -2,11 +2,14 @@
 //! link it in the archive's place. The driver keeps the header's rules; it never lends a null pointer
 //! here.
 
-use plain::{Count, Step};
+use plain::{Cause, Count, Step};
 use std::slice::{from_raw_parts, from_raw_parts_mut};
 
 #[repr(C)]
 pub struct CStep(u32, u32, u32);
+
+#[repr(C)]
+pub struct CCause(u32, u32, u32, u32, u32, u32);
 
 #[repr(C)]
 pub struct CCount(u32, u32);
@@ -72,6 +75,20 @@ pub unsafe extern "C" fn sheetbendle_settle(
 }
 
 #[no_mangle]
+pub unsafe extern "C" fn sheetbendle_why(
+    image: *const u8,
+    image_bytes: usize,
+    table: *const u32,
+    cells: usize,
+    area: *const u32,
+    words: usize,
+    number: usize,
+) -> CCause {
+    let (image, table) = (from_raw_parts(image, image_bytes), from_raw_parts(table, cells));
+    cause(plain::why(image, table, from_raw_parts(area, words), number))
+}
+
+#[no_mangle]
 pub unsafe extern "C" fn sheetbendle_order(
     image: *const u8,
     image_bytes: usize,
@@ -106,6 +123,10 @@ pub unsafe extern "C" fn sheetbendle_next_image(
 
 fn step(Step { refusal, state, detail }: Step) -> CStep {
     CStep(refusal, state, detail)
+}
+
+fn cause(Cause { refusal, reason, cell, program, war_cell, war_program }: Cause) -> CCause {
+    CCause(refusal, reason, cell, program, war_cell, war_program)
 }
 
 fn count(Count { refusal, count }: Count) -> CCount {

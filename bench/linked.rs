@@ -2,7 +2,7 @@
 //! each behind a safe function that takes slices.
 
 use crate::Calls;
-use plain::{Count, Step};
+use plain::{Cause, Count, Step};
 
 pub struct Archive;
 
@@ -11,6 +11,16 @@ struct CStep {
     refusal: u32,
     state: u32,
     detail: u32,
+}
+
+#[repr(C)]
+struct CCause {
+    refusal: u32,
+    reason: u32,
+    cell: u32,
+    program: u32,
+    war_cell: u32,
+    war_program: u32,
 }
 
 #[repr(C)]
@@ -46,6 +56,15 @@ extern "C" {
         words: usize,
         number: usize,
     ) -> CStep;
+    fn sheetbendle_why(
+        image: *const u8,
+        image_bytes: usize,
+        table: *const u32,
+        cells: usize,
+        area: *const u32,
+        words: usize,
+        number: usize,
+    ) -> CCause;
     fn sheetbendle_order(
         image: *const u8,
         image_bytes: usize,
@@ -95,6 +114,13 @@ impl Calls for Archive {
     }
 
     #[inline]
+    fn why(&self, image: &[u8], table: &[u32], area: &[u32], number: usize) -> Cause {
+        let (image_bytes, cells, words) = (image.len(), table.len(), area.len());
+        let (image, table, area) = (image.as_ptr(), table.as_ptr(), area.as_ptr());
+        cause(unsafe { sheetbendle_why(image, image_bytes, table, cells, area, words, number) })
+    }
+
+    #[inline]
     fn order(&self, image: &[u8], table: &[u32], area: &[u32], list: &mut [u32]) -> Count {
         let (image_bytes, cells, words, entries) = (image.len(), table.len(), area.len(), list.len());
         let (image, table, area, list) = (image.as_ptr(), table.as_ptr(), area.as_ptr(), list.as_mut_ptr());
@@ -126,6 +152,10 @@ impl Calls for Archive {
 
 fn step(CStep { refusal, state, detail }: CStep) -> Step {
     Step { refusal, state, detail }
+}
+
+fn cause(CCause { refusal, reason, cell, program, war_cell, war_program }: CCause) -> Cause {
+    Cause { refusal, reason, cell, program, war_cell, war_program }
 }
 
 fn count(CCount { refusal, count }: CCount) -> Count {

@@ -2,18 +2,18 @@
 
 use material::assembler::{self, Instruction};
 use material::random::{self, Random, Shape};
-use plain::area::{
-    words, CELLS, COMMITTED, GATHERED, READS, READ_COUNT, SLOT_WORDS, STATE, STORES, STORE_COUNT,
-};
+use plain::area::{words, CARRIED, CELLS, COMMITTED, GATHERED};
+use plain::area::{READS, READ_COUNT, SLOT_WORDS, STATE, STORES, STORE_COUNT};
 use plain::image::{INSTRUCTIONS, PROGRAMS};
 
 /// The calls that are measured.
-pub const CALLS: [&str; 5] = ["open", "gather", "settle", "order", "next_image"];
+pub const CALLS: [&str; 6] = ["open", "gather", "settle", "why", "order", "next_image"];
 pub const OPEN: usize = 0;
 pub const GATHER: usize = 1;
 pub const SETTLE: usize = 2;
-pub const ORDER: usize = 3;
-pub const NEXT_IMAGE: usize = 4;
+pub const WHY: usize = 3;
+pub const ORDER: usize = 4;
+pub const NEXT_IMAGE: usize = 5;
 
 pub struct Scenario {
     pub name: &'static str,
@@ -47,8 +47,17 @@ pub fn all() -> Vec<Scenario> {
 
 /// The numbers of the programs that are to be settled.
 pub fn gathered_programs(area: &[u32], cells: usize) -> Vec<usize> {
+    programs_in(GATHERED, area, cells)
+}
+
+/// The numbers of the programs that are asked about: why they were carried.
+pub fn carried_programs(area: &[u32], cells: usize) -> Vec<usize> {
+    programs_in(CARRIED, area, cells)
+}
+
+fn programs_in(wanted: u32, area: &[u32], cells: usize) -> Vec<usize> {
     let states = plain::area::states(area, cells).enumerate();
-    states.filter(|&(_, state)| state == GATHERED).map(|(number, _)| number).collect()
+    states.filter(|&(_, state)| state == wanted).map(|(number, _)| number).collect()
 }
 
 /// As much as an image holds, on the largest table. The carried programs leave room for few.

@@ -8,8 +8,9 @@ mod table;
 use linked::Archive;
 use plain::image::{LONGEST, PROGRAMS};
 use plain::refusal::DONE;
-use plain::{Count, Step};
-use scenarios::{gathered_programs, Scenario, Start, CALLS, GATHER, NEXT_IMAGE, OPEN, ORDER, SETTLE};
+use plain::{Cause, Count, Step};
+use scenarios::{carried_programs, gathered_programs, Scenario, Start};
+use scenarios::{CALLS, GATHER, NEXT_IMAGE, OPEN, ORDER, SETTLE, WHY};
 use std::hint::black_box;
 use std::time::Instant;
 use table::Figures;
@@ -24,6 +25,7 @@ trait Calls {
     fn open(&self, image: &[u8], table: &[u32], area: &mut [u32]) -> u32;
     fn gather(&self, image: &[u8], table: &[u32], area: &mut [u32], number: usize) -> Step;
     fn settle(&self, image: &[u8], table: &mut [u32], area: &mut [u32], number: usize) -> Step;
+    fn why(&self, image: &[u8], table: &[u32], area: &[u32], number: usize) -> Cause;
     fn order(&self, image: &[u8], table: &[u32], area: &[u32], list: &mut [u32]) -> Count;
     fn next_image(&self, image: &[u8], table: &[u32], area: &[u32], fresh: &[u8], out: &mut [u8]) -> Count;
 }
@@ -39,6 +41,9 @@ impl Calls for Plain {
     }
     fn settle(&self, image: &[u8], table: &mut [u32], area: &mut [u32], number: usize) -> Step {
         plain::settle(image, table, area, number)
+    }
+    fn why(&self, image: &[u8], table: &[u32], area: &[u32], number: usize) -> Cause {
+        plain::why(image, table, area, number)
     }
     fn order(&self, image: &[u8], table: &[u32], area: &[u32], list: &mut [u32]) -> Count {
         plain::order(image, table, area, list)
@@ -81,6 +86,9 @@ fn run(calls: &impl Calls, scenario: &Scenario, memory: &mut Memory) -> Figures 
         let gathered = gathered_programs(area, table.len());
         let settle = |place: usize| done(calls.settle(image, table, area, gathered[place]).refusal);
         times[SETTLE] = Some(per_call(gathered.len(), settle));
+        let carried = carried_programs(area, table.len());
+        let why = |place: usize| done(calls.why(image, table, area, carried[place % carried.len()]).refusal);
+        times[WHY] = Some(per_call(REPEATS * carried.len(), why));
     }
     times[ORDER] = Some(per_call(REPEATS, |_| done(calls.order(image, table, area, list).refusal)));
     times[NEXT_IMAGE] =
