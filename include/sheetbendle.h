@@ -57,6 +57,7 @@
  *     12    no order exists (never for an area that these calls made on this image)   order
  *     13    this program is not carried                                               why
  *     15    its detail is not the reason that its slot, the marks and the rule give   why
+ *           (never for an area that these calls made on this image)
  *     21-24 as 1 to 4, for the fresh image                                            next_image
  *
  * T is the number of cells and n the number of programs.

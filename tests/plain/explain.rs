@@ -74,7 +74,7 @@ fn carried_for_waw(Cause { cell, program, .. }: Cause) -> Said {
         facts: format!(" waw cell {cell} program {program}"),
         words: vec![format!(
             "It stores cell {cell}, and so does program {program}, which comes first: \
-             only one of the two can count."
+             the two cannot both count in one batch."
         )],
     }
 }

@@ -44,7 +44,7 @@ fn carried_for_raw_and_for_waw() {
   It read cell 0 as it was when the batch was opened, while program 0, which comes first, stores it.
   Its reservations stay; it runs again in the next batch, as number 0, and ends within 1 more batch.
 2 carried waw cell 0 program 0
-  It stores cell 0, and so does program 0, which comes first: only one of the two can count.
+  It stores cell 0, and so does program 0, which comes first: the two cannot both count in one batch.
   Its reservations stay; it runs again in the next batch, as number 1, and ends within 2 more batches.
 ";
     assert_eq!(printed("01"), pages);
