@@ -1,7 +1,7 @@
 -- What the calls say, from what their parts did. Assumes nothing.
 use Prim.Native.Nat.{ℕ, _<_}
-use mathlib.Core.Path.{_≡_, sym, ap, subst, _∙_}
-use mathlib.Core.Bool.{Bool}
+use mathlib.Core.Path.{_≡_, refl, sym, ap, subst, _∙_}
+use mathlib.Core.Bool.{Bool, true, false}
 use mathlib.Core.List.{List}
 use lib.ListN.{length}
 use Rattle.image.specs.declared.Refusal.{Refusal}
@@ -15,13 +15,14 @@ use Rattle.area.specs.Marks.{reserve, waw, raw, war}
 use Rattle.area.specs.Checks.{openRefusal, Checked, Slotted}
 use Rattle.area.proofs.Checks.{checked-passed, program-slotted}
 use Rattle.steps.specs.declared.Gathered.the-variants as gathering
+use Rattle.steps.specs.declared.Reason.the-variants.{Waw, Raw, RawWithWar}
 use Rattle.steps.specs.declared.Settled.{Settled}
 use Rattle.steps.specs.declared.Settled.the-variants as settling
 use Rattle.steps.specs.Answers.{numbersOfSettled}
 use Rattle.steps.specs.Opening.{cleared, openArea, OpenSays}
 use Rattle.steps.specs.Gathering.{gatherRefusal, runAt, reserved, gatheredBy, gatherAnswer, gatherArea, GatherSays}
 use Rattle.steps.specs.Gathering.{Gathers, RunsInto}
-use Rattle.steps.specs.Settling.{settleRefusal, decided, verdict, settledTable, settledArea, settleAnswer, settleTable, settleArea}
+use Rattle.steps.specs.Settling.{settleRefusal, byRule1, byRule2, decided, verdict, settledTable, settledArea, settleAnswer, settleTable, settleArea}
 use Rattle.steps.specs.Settling.{SettleSays, Settles}
 use Rattle.steps.proofs.Views.{placed, marked, placed-stores, marked-reads}
 use Rattle.steps.proofs.Keeps.{fits, placed-checked, marked-checked}
@@ -97,10 +98,37 @@ module _ (image t a : List ℕ) (k : ℕ) (r : Refusal) (e : r ≡ settleRefusal
         area = done-as (λ r. a) e h (w .area);
       }
 
-pub judged : (image a : List ℕ) (T k : ℕ) (s w r x : Bool) (v : Settled) → v ≡ decided s w r x → s ≡ secondRule image
-    → w ≡ waw T k a → r ≡ raw T k a → x ≡ war T k a → v ≡ verdict image T k a
-unfolding verdict
-judged image a T k s w r x v e f g h i = rw (← f, ← g, ← h, ← i) e
+-- the decision, from the dependencies that have been found
+module _ (image a : List ℕ) (T k : ℕ) where
+  pub with-waw : waw T k a ≡ true → settling.Carried Waw ≡ verdict image T k a
+  unfolding verdict decided byRule1 byRule2
+  with-waw w = rw w (go (secondRule image))
+    where
+      go : (second : Bool) → settling.Carried Waw ≡ decided second true (raw T k a) (war T k a)
+      go true = refl
+      go false = refl
+
+  module _ (w : waw T k a ≡ false) where
+    pub without-raw : raw T k a ≡ false → settling.Committed ≡ verdict image T k a
+    unfolding verdict decided byRule1 byRule2
+    without-raw r = rw (w, r) (go (secondRule image))
+      where
+        go : (second : Bool) → settling.Committed ≡ decided second false false (war T k a)
+        go true = refl
+        go false = refl
+
+    module _ (r : raw T k a ≡ true) where
+      pub raw-by-rule-1 : secondRule image ≡ false → settling.Carried Raw ≡ verdict image T k a
+      unfolding verdict decided byRule1
+      raw-by-rule-1 s = rw (s, w, r)
+
+      pub raw-with-war : secondRule image ≡ true → war T k a ≡ true → settling.Carried RawWithWar ≡ verdict image T k a
+      unfolding verdict decided byRule2
+      raw-with-war s v = rw (s, w, r, v)
+
+      pub raw-alone : secondRule image ≡ true → war T k a ≡ false → settling.Committed ≡ verdict image T k a
+      unfolding verdict decided byRule2
+      raw-alone s v = rw (s, w, r, v)
 
 pub after-settling : (image t a : List ℕ) (k : ℕ) (v : Settled) (t′ a′ : List ℕ) (state detail : ℕ) → v ≡ verdict image (length t) k a
     → t′ ≡ settledTable v k a t → a′ ≡ withState (length t) k state detail a → state ≡ numbersOfSettled v .state

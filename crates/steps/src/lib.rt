@@ -7,7 +7,7 @@ ghost use Rattle.area.specs.Checks.{Checked, Measured, Slotted};
 ghost use Rattle.steps.specs.Answers.{numbersOfSettled, reasonNumber};
 ghost use Rattle.steps.specs.Opening.{OpenSays};
 ghost use Rattle.steps.specs.Gathering.{stepRefusal, gatherRefusal, GatherSays, Gathers, RunsInto};
-ghost use Rattle.steps.specs.Settling.{isReady, settleRefusal, byRule1, byRule2, decided, verdict, settledTable, SettleSays, Settles};
+ghost use Rattle.steps.specs.Settling.{isReady, settleRefusal, verdict, settledTable, SettleSays, Settles};
 
 // What gathering answers.
 pub enum Gathered {
@@ -140,72 +140,27 @@ fn settle_refusal(image: &[u8], table: &[u32], area: &[u32], number: usize) -> i
     image::Refusal::NONE
 }
 
-// Rule 1 commits without WAW and without RAW.
-fn by_rule_1(waw: bool, raw: bool) -> Settled
-    ensures { λ r. ⌜ r ≡ byRule1 waw raw ⌝ }
-{
-    if waw {
-        return Settled::Carried(Reason::Waw);
-    }
-    if raw {
-        return Settled::Carried(Reason::Raw);
-    }
-    Settled::Committed
-}
-
-// Rule 2 commits without WAW and not with both RAW and WAR.
-fn by_rule_2(waw: bool, raw: bool, war: bool) -> Settled
-    ensures { λ r. ⌜ r ≡ byRule2 waw raw war ⌝ }
-{
-    if waw {
-        return Settled::Carried(Reason::Waw);
-    }
-    if raw {
-        if war {
-            return Settled::Carried(Reason::RawWithWar);
-        }
-    }
-    Settled::Committed
-}
-
-// The decision, by the rule in force.
-fn decide(second: bool, waw: bool, raw: bool, war: bool) -> Settled
-    ensures { λ r. ⌜ r ≡ decided second waw raw war ⌝ }
-{
-    if second {
-        return by_rule_2(waw, raw, war);
-    }
-    by_rule_1(waw, raw)
-}
-
-// The decision on a program, by the marks.
+// The decision on a program, by the marks and the rule: WAW is looked at first, and WAR only where Rule 2 has found RAW.
 pub fn judge(image: &[u8], area: &[u32], cells: usize, number: usize) -> Settled
     requires { ⌜ Slotted cells number (now area) ⌝ }
     ensures { λ r. ⌜ r ≡ verdict (now (image .entry)) cells number (now (area .entry)) ⌝ }
 {
-    let second = image::second_rule(image);
-    let waw = area::depends(
-        area,
-        cells,
-        number,
-        slot::ListKind::Stores,
-        area::MarkKind::Write,
-    );
-    let raw = area::depends(
-        area,
-        cells,
-        number,
-        slot::ListKind::Reads,
-        area::MarkKind::Write,
-    );
-    let war = area::depends(
-        area,
-        cells,
-        number,
-        slot::ListKind::Stores,
-        area::MarkKind::Read,
-    );
-    decide(second, waw, raw, war)
+    let reads = slot::ListKind::Reads;
+    let stores = slot::ListKind::Stores;
+    let write = area::MarkKind::Write;
+    if area::depends(area, cells, number, stores, write) {
+        return Settled::Carried(Reason::Waw);
+    }
+    if !area::depends(area, cells, number, reads, write) {
+        return Settled::Committed;
+    }
+    if !image::second_rule(image) {
+        return Settled::Carried(Reason::Raw);
+    }
+    if area::depends(area, cells, number, stores, area::MarkKind::Read) {
+        return Settled::Carried(Reason::RawWithWar);
+    }
+    Settled::Committed
 }
 
 // The reason's number in document 01.
