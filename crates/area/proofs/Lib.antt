@@ -5,6 +5,7 @@ pub mod Checks
 pub mod Keeps
 pub mod Loops
 pub mod Places
+pub mod LowestCells
 pub mod Cases
 pub mod CheckCases
 pub mod Unique

@@ -1,14 +1,13 @@
 -- The loops over a slot's lists: what is left to do, done on what is there, is the whole. Assumes nothing.
 use Prim.Native.Nat.{ℕ, _+_, _-_, _≤_, _<_}
 use mathlib.Core.Path.{_≡_, refl, sym, ap, _∙_}
-use mathlib.Core.Bool.{true, false, _||_}
 use mathlib.Core.List.{List, _∷_}
 use native.Mathlib.Omega.{arith}
 use lib.ListN.{length, getD, set, length-set}
 use lib.Seq.{getD-set-other}
 use Rattle.base.specs.Words.{words}
 use Rattle.base.proofs.Walks.{words-start, words-next, words-end}
-use Rattle.area.specs.Marks.{markOf, lower, reserve, earlier, hit, storeAll}
+use Rattle.area.specs.Marks.{markOf, lower, reserve, storeAll}
 use Rattle.area.specs.Checks.{Names, Storing}
 
 -- the words at a place, from the i-th on
@@ -50,25 +49,6 @@ module _ (marks at count k : ℕ) (a₀ : List ℕ) (names : Names marks at coun
   pub reserving-end : count ≤ i → a ≡ reserve marks (words at count a₀) k a₀
   unfolding reserve
   reserving-end h = ap (λ (x : List ℕ). reserve marks x k a) (sym (words-end a₀ at count (names .lies) i h)) ∙ r .rest
-
--- ---- a loop that looks for a hit
-
-module _ (marks at count k : ℕ) (a : List ℕ) (names : Names marks at count a) (i : ℕ) where
-  hit-turn : i < count → hit marks (left at count a i) k a
-      ≡ (earlier (getD a (marks + getD a (at + i) 0) 0) k || hit marks (left at count a (i + 1)) k a)
-  unfolding hit
-  hit-turn h = ap (λ (x : List ℕ). hit marks x k a) (words-next a at count (names .lies) i h)
-
-  pub hit-found : i < count → earlier (getD a (marks + getD a (at + i) 0) 0) k ≡ true → hit marks (left at count a i) k a ≡ true
-  hit-found h e = hit-turn h ∙ rw e
-
-  pub hit-next : i < count → earlier (getD a (marks + getD a (at + i) 0) 0) k ≡ false
-      → hit marks (left at count a (i + 1)) k a ≡ hit marks (left at count a i) k a
-  hit-next h e = sym (hit-turn h ∙ rw e)
-
-  pub hit-end : count ≤ i → hit marks (left at count a i) k a ≡ false
-  unfolding hit
-  hit-end h = ap (λ (x : List ℕ). hit marks x k a) (words-end a at count (names .lies) i h)
 
 -- ---- a loop that stores
 

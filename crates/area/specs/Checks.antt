@@ -114,6 +114,11 @@ pub record Names (marks at count : ℕ) (a : List ℕ) : Type 0 where
   pub lies : at + count ≤ length a
   pub before-at : (i : ℕ) → i < count → marks + getD a (at + i) 0 < at
 
+-- And each is a cell of a table of T.
+pub record Searched (T marks at count : ℕ) (a : List ℕ) : Type 0 where
+  pub names : Names marks at count a
+  pub in-table : (i : ℕ) → i < count → getD a (at + i) 0 < T
+
 -- The count words from a place on lie in the area, and so do those at another place; each of the first names a cell of the table.
 pub record Storing (cells values count : ℕ) (a t : List ℕ) : Type 0 where
   pub few : count ≤ listWords

@@ -4,7 +4,7 @@ use mathlib.Core.Bool.{Bool, false, cond, _&&_, _||_}
 use mathlib.Core.List.{List, [], _∷_}
 use lib.ListN.{getD, set}
 use lib.Dec.{eqb, ltb, leb}
-use Rattle.base.specs.Words.{words}
+use Rattle.base.specs.Words.{least, has, words}
 use Rattle.slot.specs.declared.ListKind.{ListKind}
 use Rattle.slot.specs.declared.ListKind.the-variants.{Reads, Stores}
 use Rattle.area.specs.declared.MarkKind.{MarkKind}
@@ -55,6 +55,26 @@ raw T k a = depends Reads Write T k a
 
 abbrev pub war : ℕ → ℕ → List ℕ → Bool
 war T k a = depends Stores Read T k a
+
+-- ---- document 02, ask 3: "the lowest cell that shows the dependency"
+
+-- a cell shows it: it is one of the cells, and its mark, in the marks that begin at the place, names an earlier program
+unfoldable pub shows : ℕ → List ℕ → ℕ → List ℕ → ℕ → Bool
+shows at cs k a c = has c cs && earlier (getD a (at + c) 0) k
+
+-- the lowest by its number, and not by its place among them; T where none of T does
+unfoldable pub lowestOf : (T at : ℕ) → List ℕ → ℕ → List ℕ → ℕ
+lowestOf T at cs k a = least (shows at cs k a) T
+
+-- with one cell more among them
+unfoldable pub lowerCell : (at k : ℕ) → List ℕ → (found cell : ℕ) → ℕ
+lowerCell at k a found cell = cond (ltb cell found && earlier (getD a (at + cell) 0) k) cell found
+
+-- of program k's list of a kind by the marks of a kind
+unfoldable pub lowest : ListKind → MarkKind → ℕ → ℕ → List ℕ → ℕ
+lowest l m T k a = lowestOf T (marksAt m T) (listOf l T k a) k a
+
+-- ---- stores
 
 -- the table after stores, in their order
 unfoldable pub storeAll : List ℕ → List ℕ → List ℕ → List ℕ

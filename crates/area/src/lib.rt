@@ -7,9 +7,9 @@ ghost use Rattle.base.specs.Masks.{maskOf};
 ghost use Rattle.image.specs.Limits.{maxPrograms, maxCells};
 ghost use Rattle.image.specs.Image.{refusalOf};
 ghost use Rattle.area.specs.Layout.{areaWords, marksAt, slotStart, spanOf, listOf, stateOf, detailOf, inGroup, withState};
-ghost use Rattle.area.specs.Marks.{lower, reserve, earlier, named, hit, depends, storedBy, committedTable};
+ghost use Rattle.area.specs.Marks.{lower, reserve, earlier, named, lowerCell, lowestOf, lowest, storedBy, committedTable};
 ghost use Rattle.area.specs.Checks.{tableGood, allBelow, listGood, slotGood, slotsGood, wordsGood, statesFrom};
-ghost use Rattle.area.specs.Checks.{roomRefusal, openRefusal, callRefusal, endedRefusal, Measured, HasSlot, Slotted, Names, Storing};
+ghost use Rattle.area.specs.Checks.{roomRefusal, openRefusal, callRefusal, endedRefusal, Measured, HasSlot, Slotted, Names, Searched, Storing};
 
 // The kinds of marks: who stores a cell, and who reads it.
 pub enum MarkKind {
@@ -64,7 +64,7 @@ pub fn span_of(area: &[u32], cells: usize, number: usize, list: slot::ListKind) 
 }
 
 // A mark that is 0 or larger becomes k.
-pub fn lowered(m: u32, k: u32) -> u32
+fn lowered(m: u32, k: u32) -> u32
     ensures { λ r. ⌜ r ≡ lower m k ⌝ }
 {
     if m == 0 {
@@ -91,7 +91,7 @@ fn reserve_cells(area: &mut [u32], marks: usize, at: usize, count: usize, number
 }
 
 // Whether a mark names a program earlier than number.
-pub fn earlier(m: u32, number: usize) -> bool
+fn earlier(m: u32, number: usize) -> bool
     ensures { λ r. ⌜ r ≡ earlier m number ⌝ }
 {
     if m == 0 {
@@ -108,20 +108,38 @@ pub fn named(m: u32) -> u32
     m - 1
 }
 
-// Whether some cell of the list has such a mark.
-fn hit(area: &[u32], marks: usize, at: usize, count: usize, number: usize) -> bool
-    requires { ⌜ Names marks at count (now area) ⌝ }
-    ensures { λ r. ⌜ r ≡ hit marks (words at count (now (area .entry))) number (now (area .entry)) ⌝ }
+// The lower of two cells, the second of which counts if its mark names an earlier program.
+fn lower_cell(area: &[u32], marks: usize, number: usize, found: usize, cell: usize) -> usize
+    requires { ⌜ marks + cell < length (now area) ⌝ }
+    ensures { λ r. ⌜ r ≡ lowerCell marks number (now (area .entry)) found cell ⌝ }
 {
-    let mut i = 0;
-    while i < count {
-        let c = area[at + i] as usize;
-        if earlier(area[marks + c], number) {
-            return true;
-        }
-        i += 1;
+    if found <= cell {
+        return found;
     }
-    false
+    if !earlier(area[marks + cell], number) {
+        return found;
+    }
+    cell
+}
+
+// The lowest cell of the list whose mark names an earlier program; `cells` where there is none.
+fn lowest_of(
+    area: &[u32],
+    cells: usize,
+    marks: usize,
+    at: usize,
+    count: usize,
+    number: usize,
+) -> usize
+    requires { ⌜ Searched cells marks at count (now area) ⌝ }
+    ensures { λ r. ⌜ r ≡ lowestOf cells marks (words at count (now (area .entry))) number (now (area .entry)) ⌝ }
+{
+    let mut found = cells;
+    for i in 0..count {
+        let cell = area[at + i] as usize;
+        found = lower_cell(area, marks, number, found, cell);
+    }
+    found
 }
 
 // The stores of the list go into the table.
@@ -137,19 +155,20 @@ fn store_all(table: &mut [u32], area: &[u32], cells: usize, values: usize, count
     }
 }
 
-// Whether some cell of the program's list of a kind has a mark of a kind that names an earlier program.
-pub fn depends(
+// The lowest cell of the program's list of a kind whose mark of a kind names an earlier program; `cells` where there is none.
+pub fn lowest(
     area: &[u32],
     cells: usize,
     number: usize,
     list: slot::ListKind,
     marks: MarkKind,
-) -> bool
+) -> usize
     requires { ⌜ Slotted cells number (now area) ⌝ }
-    ensures { λ r. ⌜ r ≡ depends list marks cells number (now (area .entry)) ⌝ }
+    ensures { λ r. ⌜ r ≡ lowest list marks cells number (now (area .entry)) ⌝ }
 {
     let s = span_of(area, cells, number, list);
-    hit(area, marks_start(marks, cells), s.at, s.count, number)
+    let start = marks_start(marks, cells);
+    lowest_of(area, cells, start, s.at, s.count, number)
 }
 
 // The program reserves the cells of its list of a kind in the marks of a kind.

@@ -3,7 +3,7 @@ pub mod Counts
 pub mod Joins
 pub mod Members
 pub mod Numbers
-pub mod Sets
+pub mod Leasts
 pub mod Parts
 pub mod Somes
 pub mod Tables

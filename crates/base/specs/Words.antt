@@ -4,7 +4,7 @@ use Prim.Native.Nat.{ℕ, zero, suc, _+_}
 use mathlib.Core.Bool.{Bool, true, false, not, cond, _&&_, _||_}
 use mathlib.Core.List.{List, [], _∷_, _++_}
 use lib.ListN.{take, drop}
-use lib.Dec.{eqb}
+use lib.Dec.{eqb, ltb}
 
 -- ---- the numbers below n
 
@@ -26,6 +26,11 @@ orElse (suc a) b = suc a
 unfoldable pub first : (ℕ → Bool) → ℕ → ℕ
 first test zero = 0
 first test (suc n) = orElse (first test n) (cond (test n) (suc n) 0)
+
+-- the smallest of them that passes, or n
+unfoldable pub least : (ℕ → Bool) → ℕ → ℕ
+least test zero = 0
+least test (suc n) = cond (ltb (least test n) n) (least test n) (cond (test n) n (suc n))
 
 -- how many of them pass
 unfoldable pub count : (ℕ → Bool) → ℕ → ℕ

@@ -1,4 +1,4 @@
-pub mod Search
+pub mod Naming
 pub mod Refusals
 pub mod Says
 pub mod Unique

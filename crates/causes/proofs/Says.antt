@@ -5,50 +5,69 @@ use mathlib.Core.Bool.{Bool, true, false}
 use mathlib.Core.List.{List}
 use native.Mathlib.Omega.{arith}
 use lib.ListN.{length}
+use borrow.Author.Tests.{eq-eqb, ne-eqb}
 use Rattle.image.specs.declared.Refusal.{Refusal}
 use Rattle.image.specs.Refusals as refusal
 use Rattle.image.specs.Refusals.{check}
 use Rattle.image.specs.Image.{countOf, secondRule}
 use Rattle.image.proofs.Refusing.{number-of, first-refuses, refused-as, done-as, last-decides}
-use Rattle.area.specs.Marks.{waw, raw, war}
-use Rattle.steps.specs.declared.Reason.{Reason}
+use Rattle.area.specs.Layout.{detailOf}
+use Rattle.steps.specs.declared.Reason.the-variants.{Waw, Raw, RawWithWar}
 use Rattle.steps.specs.declared.Settled.{Settled}
 use Rattle.steps.specs.declared.Settled.the-variants.{Refused, Committed, Carried}
-use Rattle.steps.specs.Settling.{byRule1, byRule2, decided, verdict}
+use Rattle.steps.specs.declared.Verdict.{Verdict}
+use Rattle.steps.specs.Answers.{reasonNumber, numbersOfSettled}
+use Rattle.steps.specs.Settling.{verdict, withCells, settledBy}
+use Rattle.steps.proofs.Says.{cells-dropped}
+use Rattle.causes.specs.Causes.{causeOf}
 use Rattle.causes.specs.declared.answers.Why.{Why}
 use Rattle.causes.specs.declared.answers.Why.the-variants as why
 use Rattle.causes.specs.declared.answers.Before.{Before}
 use Rattle.causes.specs.declared.answers.Before.the-variants as before
-use Rattle.causes.specs.Why.{Shown, explainedBy, answerFor, askRefusal, carriedRefusal, holdsReason, whyRefusal, whyAnswer, WhySays, Explains}
+use Rattle.causes.specs.Why.{explained, isReason, explainedBy, toldBy, answerFor, askRefusal, carriedRefusal, holdsReason, whyRefusal, whyAnswer, WhySays, Explains}
 use Rattle.causes.specs.Why.{beforeOf, beforeAnswer, BeforeSays}
-
--- ---- a decision to carry shows its reason's dependencies
-
-abbrev ShownBy : Settled → ℕ → ℕ → List ℕ → Type 0
-ShownBy (Refused r) T k a = Unit {0}
-ShownBy Committed T k a = Unit {0}
-ShownBy (Carried reason) T k a = Shown reason T k a
-
-pub verdict-shows : (image : List ℕ) (T k : ℕ) (a : List ℕ) (v : Settled) (reason : Reason) → v ≡ verdict image T k a → v ≡ Carried reason → Shown reason T k a
-unfolding verdict decided byRule1 byRule2
-verdict-shows image T k a v reason e f =
-    subst (λ (x : Settled). ShownBy x T k a) (sym e ∙ f) (go (secondRule image) (waw T k a) (raw T k a) (war T k a) refl refl refl)
-  where
-    go : (second w r x : Bool) → w ≡ waw T k a → r ≡ raw T k a → x ≡ war T k a → ShownBy (decided second w r x) T k a
-    go true true r x p q h = sym p
-    go true false true true p q h = (sym q, sym h)
-    go true false true false p q h = tt
-    go true false false x p q h = tt
-    go false true r x p q h = sym p
-    go false false true x p q h = sym q
-    go false false false x p q h = tt
 
 -- ---- why
 
--- w is the case of the decision v that was matched
-pub explained-as : (image t a : List ℕ) (k : ℕ) (v w : Settled) (x : Why) → v ≡ verdict image (length t) k a → v ≡ w → x ≡ answerFor w (length t) k a
-    → Explains image t a k x
-explained-as image t a k v w x e f g = record { answer = g ∙ ap (λ (y : Settled). answerFor y (length t) k a) (sym f ∙ e) }
+-- the reason with its cause, from the cells that settling found
+told-same : (v : Settled) (T k : ℕ) (a : List ℕ) → toldBy (withCells v T k a) T a ≡ explainedBy v T k a
+unfolding toldBy withCells explainedBy explained causeOf
+told-same (Refused r) T k a = refl
+told-same Committed T k a = refl
+told-same (Carried Waw) T k a = refl
+told-same (Carried Raw) T k a = refl
+told-same (Carried RawWithWar) T k a = refl
+
+-- the detail is not the decision's, or it is; a decision to commit has a detail, but no reason
+not-the-reason : (v : Settled) (T k : ℕ) (a : List ℕ) → (detailOf T k a ≡ numbersOfSettled v .detail → ⊥) → why.Refused refusal.reason ≡ answerFor v T k a
+unfolding answerFor isReason
+not-the-reason (Refused r) T k a h = refl
+not-the-reason Committed T k a h = refl
+not-the-reason (Carried reason) T k a h = rw (ne-eqb (detailOf T k a) (reasonNumber reason) h)
+
+the-reason : (v : Settled) (T k : ℕ) (a : List ℕ) → detailOf T k a ≡ numbersOfSettled v .detail → explainedBy v T k a ≡ answerFor v T k a
+unfolding answerFor isReason explainedBy
+the-reason (Refused r) T k a e = refl
+the-reason Committed T k a e = refl
+the-reason (Carried reason) T k a e = rw (eq-eqb (detailOf T k a) (reasonNumber reason) e)
+
+-- j is what settling found, d the detail that its decision leaves
+module _ (image t a : List ℕ) (k : ℕ) (j : Verdict) (found : j ≡ withCells (verdict image (length t) k a) (length t) k a) (d : ℕ)
+    (leaves : d ≡ numbersOfSettled (settledBy j) .detail) where
+  detail-left : d ≡ numbersOfSettled (verdict image (length t) k a) .detail
+  detail-left = leaves ∙ ap (λ (v : Settled). numbersOfSettled v .detail) (ap settledBy found ∙ cells-dropped image a (length t) k)
+
+  pub other-detail : (detailOf (length t) k a ≡ d → ⊥) → Explains image t a k (why.Refused refusal.reason)
+  other-detail h = record { answer = not-the-reason (verdict image (length t) k a) (length t) k a (λ e. h (e ∙ sym detail-left)) }
+
+  pub same-detail : detailOf (length t) k a ≡ d → (x : Why) → x ≡ toldBy j (length t) a → Explains image t a k x
+  same-detail e x f =
+      record {
+        answer =
+            f
+            ∙ (ap (λ (v : Verdict). toldBy v (length t) a) found
+            ∙ (told-same (verdict image (length t) k a) (length t) k a ∙ the-reason (verdict image (length t) k a) (length t) k a (e ∙ detail-left)));
+      }
 
 module _ (image t a : List ℕ) (k : ℕ) (r : Refusal) (e : r ≡ carriedRefusal image t a k) where
   pub why-refused : (r .number ≡ 0 → ⊥) → WhySays image t a k (why.Refused r)

@@ -2,7 +2,7 @@
 -- Assumes nothing.
 use Prim.Native.Nat.{ℕ, _<_}
 use mathlib.Core.Path.{_≡_}
-use mathlib.Core.Bool.{Bool, true, false, cond}
+use mathlib.Core.Bool.{Bool, false, cond}
 use mathlib.Core.List.{List}
 use lib.Dec.{eqb}
 use lib.ListN.{length}
@@ -11,13 +11,16 @@ use Rattle.image.specs.Refusals as refusal
 use Rattle.image.specs.Refusals.{check, after, unless}
 use Rattle.image.specs.Image.{countOf}
 use Rattle.slot.specs.declared.Group.the-variants.{Carried}
+use Rattle.area.specs.declared.MarkKind.the-variants.{Write, Read}
 use Rattle.area.specs.Layout.{detailOf, inGroup}
-use Rattle.area.specs.Marks.{waw, raw, war}
+use Rattle.area.specs.Marks.{raw}
 use Rattle.area.specs.Checks.{allEnded}
 use Rattle.steps.specs.declared.Reason.{Reason}
 use Rattle.steps.specs.declared.Reason.the-variants as reason
 use Rattle.steps.specs.declared.Settled.{Settled}
 use Rattle.steps.specs.declared.Settled.the-variants as settled
+use Rattle.steps.specs.declared.Verdict.{Verdict}
+use Rattle.steps.specs.declared.Verdict.the-variants as judged
 use Rattle.steps.specs.Answers.{reasonNumber}
 use Rattle.steps.specs.Gathering.{stepRefusal}
 use Rattle.steps.specs.Settling.{verdict}
@@ -26,7 +29,7 @@ use Rattle.causes.specs.declared.answers.Why.{Why}
 use Rattle.causes.specs.declared.answers.Why.the-variants as why
 use Rattle.causes.specs.declared.answers.Before.{Before}
 use Rattle.causes.specs.declared.answers.Before.the-variants as before
-use Rattle.causes.specs.Causes.{wawCause, rawCause, warCause}
+use Rattle.causes.specs.Causes.{causeAt, wawCause, rawCause, warCause, NamesOne}
 
 -- ---- the reason with its cause
 
@@ -35,12 +38,6 @@ unfoldable pub explained : Reason → ℕ → ℕ → List ℕ → Why
 explained reason.Waw T k a = why.Waw (wawCause T k a)
 explained reason.Raw T k a = why.Raw (rawCause T k a)
 explained reason.RawWithWar T k a = why.RawWithWar (rawCause T k a) (warCause T k a)
-
--- a reason's dependencies, which the marks show
-abbrev pub Shown : Reason → ℕ → ℕ → List ℕ → Type 0
-Shown reason.Waw T k a = waw T k a ≡ true
-Shown reason.Raw T k a = raw T k a ≡ true
-Shown reason.RawWithWar T k a = (raw T k a ≡ true) × (war T k a ≡ true)
 
 -- 15, "its detail is not the reason that its slot, the marks and the rule give", also where they give none: settling's own decision says which
 unfoldable pub isReason : Settled → ℕ → Bool
@@ -52,6 +49,19 @@ unfoldable pub explainedBy : Settled → ℕ → ℕ → List ℕ → Why
 explainedBy (settled.Refused r) T k a = why.Refused refusal.reason
 explainedBy settled.Committed T k a = why.Refused refusal.reason
 explainedBy (settled.Carried reason) T k a = explained reason T k a
+
+-- the same from the cells that settling found, which have marks that name somebody
+unfoldable pub toldBy : Verdict → ℕ → List ℕ → Why
+toldBy judged.Commit T a = why.Refused refusal.reason
+toldBy (judged.Waw cell) T a = why.Waw (causeAt Write T cell a)
+toldBy (judged.Raw cell) T a = why.Raw (causeAt Write T cell a)
+toldBy (judged.RawWithWar cell other) T a = why.RawWithWar (causeAt Write T cell a) (causeAt Read T other a)
+
+abbrev pub NamesAll : Verdict → ℕ → List ℕ → Type 0
+NamesAll judged.Commit T a = Unit {0}
+NamesAll (judged.Waw cell) T a = NamesOne Write T cell a
+NamesAll (judged.Raw cell) T a = NamesOne Write T cell a
+NamesAll (judged.RawWithWar cell other) T a = NamesOne Write T cell a × NamesOne Read T other a
 
 -- ---- the checks, in their order
 

@@ -25,7 +25,7 @@ use Rattle.area.specs.Checks.{Checked, Slotted}
 use Rattle.area.proofs.Checks.{program-slotted}
 use Rattle.steps.specs.Settling.{verdict}
 use Rattle.causes.specs.Causes.{causeOf}
-use Rattle.causes.proofs.Search.{found-some}
+use Rattle.causes.proofs.Naming.{found}
 use Rattle.listing.specs.Listing.{committedCount, orderOf, orderExists}
 use Rattle.listing.proofs.Taken.{listed-ext}
 use Rattle.promises.specs.Paper.{Batch, batchOf, keepsStores, getsSettled, readSet, writeSet, touches, rule1, rule2, commits, stateAfter, detailAfter, tableAfter}
@@ -145,7 +145,7 @@ paper-shows image t opens =
       causes = λ k l q m d.
           let slotted : Slotted (length t) k (paperWorld image t .area) =
           rw (table-length (batchOf image t) t all) at (program-slotted image _ _ (checked-on image t opens all all) k l) in
-          cause-true (batchOf image t) (length t) k (runs-fit image t (opens .accepted)) l q m (found-some q m (length t) k _ slotted d);
+          cause-true (batchOf image t) (length t) k (runs-fit image t (opens .accepted)) l q m (found (length t) k _ slotted q m d);
     }
 
 pub paper-ends : {image t : List ℕ} {w : World} → RunToEnd image t w → PaperEnd image t w

@@ -5,13 +5,14 @@ use Prim.Native.Nat.{ℕ, _<_}
 use native.Mathlib.Decide.{decLt}
 use native.Mathlib.Omega.{arith}
 use Rattle.base.specs.Words.{meets}
-use Rattle.base.proofs.Bools.{and-left, and-right}
+use Rattle.base.proofs.Bools.{clash, and-left, and-right}
 use Rattle.base.proofs.Members.{meets-swap}
 use Rattle.base.proofs.Somes.{some-none}
 use Rattle.slot.specs.States.{committed, carried, canSettle}
 use Rattle.machine.specs.declared.Run.{Run}
 use Rattle.machine.specs.declared.Run.the-variants.{Finished, Rejected, Faulted}
 use Rattle.machine.specs.Runs.{keeps, stateOfRun}
+use Rattle.steps.specs.declared.Reason.{Reason}
 use Rattle.steps.specs.declared.Reason.the-variants.{Waw, Raw, RawWithWar}
 use Rattle.steps.specs.declared.Settled.{Settled}
 use Rattle.steps.specs.declared.Settled.the-variants.{Committed, Carried}
@@ -49,6 +50,26 @@ module _ (b : Batch) (k : ℕ) where
       go true false r v h = refl
       go false true r v h = sym h
       go false false r v h = refl
+
+-- who keeps its stores and does not commit has the dependencies of its reason
+abbrev pub Has : Reason → Batch → ℕ → Type 0
+Has Waw b k = waw b k ≡ true
+Has Raw b k = raw b k ≡ true
+Has RawWithWar b k = (raw b k ≡ true) × (war b k ≡ true)
+
+pub reason-has : (b : Batch) (k : ℕ) → keepsStores b k ≡ true → commits b k ≡ false → Has (reason b k) b k
+unfolding commits reason
+reason-has b k f e = go (b .second) (waw b k) (raw b k) (war b k) refl refl refl (rw f at e)
+  where
+    go : (second w r v : Bool) → w ≡ waw b k → r ≡ raw b k → v ≡ war b k → cond second (rule2 w r v) (rule1 w r) ≡ false
+        → Has (cond w Waw (cond second RawWithWar Raw)) b k
+    go second true r v p q h e = sym p
+    go true false true true p q h e = (sym q, sym h)
+    go true false true false p q h e = clash refl e
+    go true false false true p q h e = clash refl e
+    go true false false false p q h e = clash refl e
+    go false false true v p q h e = sym q
+    go false false false v p q h e = clash refl e
 
 -- two programs that commit store no common cell: the later one would have WAW
 pub no-common : (b : Batch) (j k : ℕ) → (j ≡ k → ⊥) → commits b j ≡ true → commits b k ≡ true → meets (writeSet b j) (writeSet b k) ≡ false

@@ -6,7 +6,6 @@ use Prim.Native.Nat.{ℕ, _<_}
 use native.Mathlib.Decide.{ℕ-discrete}
 use lib.ListN.{length}
 use Rattle.base.specs.Words.{words, tabulate}
-use Rattle.base.proofs.Sets.{also, also-own, also-other}
 use Rattle.slot.specs.Log.{cellsOf}
 use Rattle.machine.specs.Runs.{slotOf}
 use Rattle.area.specs.declared.MarkKind.{MarkKind}
@@ -17,6 +16,7 @@ use Rattle.steps.specs.Gathering.{gatheredBy}
 use Rattle.steps.proofs.Views.{gathered-length, gathered-marks, gathered-own, gathered-other}
 use Rattle.promises.specs.Paper.{Batch, sets}
 use Rattle.promises.specs.Laid.{markOn, slotOn, areaOn}
+use Rattle.promises.proofs.Sets.{also, also-own, also-other}
 use Rattle.promises.proofs.MarkLaws.{marks-more}
 use Rattle.promises.proofs.SlotLaws.{slot-ext}
 use Rattle.promises.proofs.Views.{Fitting, on-length, marks-on, slot-on}

@@ -11,10 +11,10 @@ use Rattle.base.specs.Words.{has, meets}
 use Rattle.base.proofs.Bools.{known, clash, and-right, and-false, or-false}
 use Rattle.base.proofs.Members.{has-at, has-tail}
 use Rattle.base.proofs.Numbers.{below}
-use Rattle.base.proofs.Sets.{also, also-own, also-other, also-failing, also-passing}
 use Rattle.area.specs.Marks.{storeAll}
 use Rattle.promises.specs.Paper.{Batch, writeSet, newValues, getsSettled, commits, installed}
 use Rattle.promises.specs.Laid.{tableOn}
+use Rattle.promises.proofs.Sets.{also, also-own, also-other, also-failing, also-passing}
 use Rattle.promises.proofs.Deciding.{commits-keeps, settled-keeps, no-common}
 
 -- ---- stores

@@ -1,3 +1,4 @@
+pub mod Sets
 pub mod MarkLaws
 pub mod Deciding
 pub mod Installing

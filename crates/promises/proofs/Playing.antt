@@ -6,7 +6,6 @@ use native.Mathlib.Omega.{arith}
 use lib.ListN.{length, replicate, length-replicate, getD-replicate, replicate-append-replicate}
 use Rattle.base.specs.Words.{tabulate}
 use Rattle.base.proofs.Numbers.{none-first}
-use Rattle.base.proofs.Sets.{nobody}
 use Rattle.base.proofs.Tables.{tabulate-is}
 use Rattle.image.specs.Image.{countOf}
 use Rattle.slot.specs.Layout.{slotWords}
@@ -20,6 +19,7 @@ use Rattle.steps.specs.Opening.{cleared, openArea}
 use Rattle.promises.specs.Paper.{Batch, batchOf}
 use Rattle.promises.specs.Laid.{World, markOn, slotOn, slotsTo, areaOn, tableOn, worldOn}
 use Rattle.promises.specs.History.{Step, gather, settle, afterStep, played, opening, worldAfter}
+use Rattle.promises.proofs.Sets.{nobody}
 use Rattle.promises.proofs.Installing.{table-opening}
 use Rattle.promises.proofs.Stepping.{Opens, opens, Phased, gather-on, settle-table-on, settle-area-on}
 use Rattle.promises.proofs.Progress.{Progress, none-yet, moved, movedBy, none-phased, phased-by}

@@ -9,8 +9,8 @@ use borrow.Author.Tests.{eqb-true}
 use Rattle.base.specs.Words.{every, has}
 use Rattle.base.proofs.Bools.{known, clash, not-true, or-cases}
 use Rattle.base.proofs.Numbers.{every-at, every-from}
-use Rattle.base.proofs.Sets.{nobody, also, also-own, also-keeps}
 use Rattle.promises.specs.History.{Step, gather, settle, gathers, settles}
+use Rattle.promises.proofs.Sets.{nobody, also, also-own, also-keeps}
 use Rattle.promises.proofs.Stepping.{Phased}
 
 pub record Progress : Type 0 where

@@ -12,7 +12,6 @@ use borrow.Author.Tests.{eqb-false, ltb-true, lt-ltb}
 use Rattle.base.specs.Words.{has, distinct}
 use Rattle.base.proofs.Bools.{clash, not-true, and-both, nots, or-false}
 use Rattle.base.proofs.Members.{has-head, has-tail, meets-in}
-use Rattle.base.proofs.Sets.{nobody, also, also-cases}
 use Rattle.image.specs.Image.{countOf, partOf}
 use Rattle.slot.specs.Log.{Log}
 use Rattle.machine.specs.declared.Run.{Run}
@@ -24,6 +23,7 @@ use Rattle.steps.specs.Gathering.{runAt}
 use Rattle.listing.specs.Order.{Ordered}
 use Rattle.promises.specs.Paper.{batchOf, readSet, writeSet, newValues, commits, installed, tableAfter}
 use Rattle.promises.specs.Serial.{serialTable, serialRuns}
+use Rattle.promises.proofs.Sets.{nobody, also, also-cases}
 use Rattle.promises.proofs.Deciding.{commits-keeps, no-common}
 use Rattle.promises.proofs.Installing.{store-length, installed-none, installed-ext, installed-more}
 use Rattle.promises.proofs.PaperOrder.{paperOrder, order-members, order-distinct, order-ordered}

@@ -22,7 +22,7 @@ use Rattle.steps.specs.Settling.{settledArea}
 use Rattle.steps.proofs.Views.{settled-length, settled-marks, settled-own, settled-other}
 use Rattle.promises.specs.Paper.{Batch, sets, newValues, touches, stateAfter, detailAfter}
 use Rattle.promises.specs.Laid.{markOn, slotOn, areaOn}
-use Rattle.base.proofs.Sets.{also, also-own, also-other}
+use Rattle.promises.proofs.Sets.{also, also-own, also-other}
 use Rattle.promises.proofs.MarkLaws.{hit-says}
 use Rattle.promises.proofs.SlotLaws.{slot-ext, logBy}
 use Rattle.promises.proofs.Views.{Fitting, on-length, marks-on, slot-on, mark-on, list-on, values-on}

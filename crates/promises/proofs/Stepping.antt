@@ -13,7 +13,6 @@ use borrow.Author.Tests.{ltb-true, ltb-false, lt-ltb, le-leb, eq-eqb, ne-eqb}
 use Rattle.base.specs.Words.{every}
 use Rattle.base.proofs.Bools.{known, clash, and-both, both-and, nots, not-false}
 use Rattle.base.proofs.Numbers.{zero-or, every-at, every-ext}
-use Rattle.base.proofs.Sets.{also, also-own, also-other}
 use Rattle.image.specs.Limits.{maxCells}
 use Rattle.image.specs.Refusals as refusal
 use Rattle.image.specs.Refusals.{check, after, unless}
@@ -32,6 +31,7 @@ use Rattle.steps.specs.Gathering.{runAt, stepRefusal, waits, gatherRefusal, gat
 use Rattle.steps.specs.Settling.{isReady, settleRefusal, verdict, settledTable, settledArea, settleTable, settleArea}
 use Rattle.promises.specs.Paper.{Batch, batchOf, writeSet, newValues, getsSettled, commits, reason}
 use Rattle.promises.specs.Laid.{areaOn, tableOn}
+use Rattle.promises.proofs.Sets.{also, also-own, also-other}
 use Rattle.promises.proofs.Deciding.{decisionOn, decided-is, decision-state, decision-detail}
 use Rattle.promises.proofs.Installing.{table-length, table-opening, table-ext, table-more}
 use Rattle.promises.proofs.SlotLaws.{stateBy, by-started, by-gathered}

@@ -15,8 +15,10 @@ use Rattle.image.proofs.Refusing.{fails, goes-on, first-refuses, first-passes, 
 use Rattle.slot.specs.declared.Group.the-variants as group
 use Rattle.slot.specs.declared.ListKind.{ListKind}
 use Rattle.slot.specs.declared.ListKind.the-variants.{Reads, Stores}
+use Rattle.area.specs.declared.MarkKind.{MarkKind}
 use Rattle.area.specs.declared.MarkKind.the-variants.{Write, Read}
 use Rattle.area.specs.Layout.{detailOf, inGroup}
+use Rattle.area.specs.Marks.{listFor}
 use Rattle.area.proofs.Checks.{checked-is}
 use Rattle.steps.specs.declared.Reason.{Reason}
 use Rattle.steps.specs.declared.Reason.the-variants.{Waw, Raw, RawWithWar}
@@ -26,14 +28,14 @@ use Rattle.steps.specs.Answers.{reasonNumber, numbersOfSettled}
 use Rattle.steps.specs.Settling.{verdict}
 use Rattle.causes.specs.declared.answers.Cause.{Cause}
 use Rattle.causes.specs.declared.answers.Why.the-variants as why
-use Rattle.causes.specs.Why.{Shown, explained, isReason, explainedBy, askRefusal, carriedRefusal, holdsReason, whyRefusal, whyAnswer}
+use Rattle.causes.specs.Causes.{causeOf}
+use Rattle.causes.specs.Why.{explained, isReason, explainedBy, askRefusal, carriedRefusal, holdsReason, whyRefusal, whyAnswer}
 use Rattle.causes.proofs.Refusals.{ask-passes}
-use Rattle.causes.proofs.Says.{verdict-shows}
-use Rattle.promises.specs.Paper.{Batch, batchOf, getsSettled, commits, reason}
+use Rattle.promises.specs.Paper.{Batch, batchOf, getsSettled, touches, commits, reason}
 use Rattle.promises.specs.Laid.{World}
 use Rattle.promises.specs.History.{isOver, RunToEnd}
 use Rattle.promises.specs.Causes.{isCarriedIn, TrueCause, TrueOf}
-use Rattle.promises.proofs.Deciding.{decisionOn, decision-detail}
+use Rattle.promises.proofs.Deciding.{settled-keeps, Has, reason-has, decisionOn, decision-detail}
 use Rattle.promises.proofs.AtEnd.{PaperEnd, paper-ends, end-sized}
 use Rattle.promises.proofs.NextBatch.{carried-are}
 
@@ -63,15 +65,23 @@ module _ (image t : List ℕ) (w : World) (run : RunToEnd image t w) (k : ℕ) (
   unfolding isCarriedIn
   group-is = rw (end-sized end) (carried-are image t w run k number)
 
+  -- a dependency of the paper's has its cause
+  cause-of : (l : ListKind) (m : MarkKind) → touches l (listFor m) b k ≡ true → TrueCause l (listFor m) b k (causeOf l m (length t) k (w .area))
+  cause-of l m has = end .causes k number l m (end .depends-is k number l m ∙ has)
+
   module _ (carried : isCarriedIn b k ≡ true) where
     ran : getsSettled b k ≡ true
     unfolding isCarriedIn
     ran = and-both (getsSettled b k) (not (commits b k)) carried .0
 
+    uncommitted : commits b k ≡ false
+    unfolding isCarriedIn
+    uncommitted = nots (commits b k) (and-both (getsSettled b k) (not (commits b k)) carried .1)
+
     -- the decision is to carry it, and its slot says so
     carried-for : decisionOn b k ≡ Carried (reason b k)
-    unfolding decisionOn isCarriedIn
-    carried-for = rw (nots (commits b k) (and-both (getsSettled b k) (not (commits b k)) carried .1))
+    unfolding decisionOn
+    carried-for = rw uncommitted
 
     decided-so : verdict image (length t) k (w .area) ≡ Carried (reason b k)
     decided-so = end .decides k number ran ∙ carried-for
@@ -95,11 +105,11 @@ module _ (image t : List ℕ) (w : World) (run : RunToEnd image t w) (k : ℕ) (
 
     -- ---- the causes
 
-    causes-true : (r : Reason) → reason b k ≡ r → Shown r (length t) k (w .area) → TrueOf b k (explained r (length t) k (w .area))
+    causes-true : (r : Reason) → reason b k ≡ r → Has r b k → TrueOf b k (explained r (length t) k (w .area))
     unfolding explained
-    causes-true Waw e s = (e, end .causes k number Stores Write s)
-    causes-true Raw e s = (e, end .causes k number Reads Write s)
-    causes-true RawWithWar e s = (e, end .causes k number Reads Write (s .0), end .causes k number Stores Read (s .1))
+    causes-true Waw e has = (e, cause-of Stores Write has)
+    causes-true Raw e has = (e, cause-of Reads Write has)
+    causes-true RawWithWar e has = (e, cause-of Reads Write (has .0), cause-of Stores Read (has .1))
 
   -- Every carried program gets its cause, and 13 is for the others: 15 never happens.
   pub why-refuses : whyRefusal image (w .table) (w .area) k ≡ cond (isCarriedIn b k) refusal.none refusal.notCarried
@@ -116,4 +126,4 @@ module _ (image t : List ℕ) (w : World) (run : RunToEnd image t w) (k : ℕ) (
   pub why-true : isCarriedIn b k ≡ true → TrueOf b k (whyAnswer image (w .table) (w .area) k)
   why-true carried =
       rw (answered carried)
-      (causes-true carried (reason b k) refl (verdict-shows image (length t) k (w .area) _ (reason b k) refl (decided-so carried)))
+      (causes-true carried (reason b k) refl (reason-has b k (sym (settled-keeps b k) ∙ ran carried) (uncommitted carried)))

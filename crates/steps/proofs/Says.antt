@@ -1,28 +1,34 @@
 -- What the calls say, from what their parts did. Assumes nothing.
-use Prim.Native.Nat.{ℕ, _<_}
+use Prim.Native.Nat.{ℕ, _≤_, _<_}
 use mathlib.Core.Path.{_≡_, refl, sym, ap, subst, _∙_}
 use mathlib.Core.Bool.{Bool, true, false}
 use mathlib.Core.List.{List}
 use lib.ListN.{length}
+use borrow.Author.Tests.{lt-ltb, le-ltb}
 use Rattle.image.specs.declared.Refusal.{Refusal}
 use Rattle.image.specs.Refusals as refusal
 use Rattle.image.proofs.Refusing.{none-is, refused-as, done-as}
 use Rattle.image.specs.Image.{countOf, secondRule}
 use Rattle.machine.specs.declared.Run.{Run}
+use Rattle.slot.specs.declared.ListKind.{ListKind}
+use Rattle.slot.specs.declared.ListKind.the-variants.{Reads, Stores}
+use Rattle.area.specs.declared.MarkKind.{MarkKind}
 use Rattle.area.specs.declared.MarkKind.the-variants.{Write, Read}
 use Rattle.area.specs.Layout.{marksAt, readsOf, storesOf, withState}
-use Rattle.area.specs.Marks.{reserve, waw, raw, war}
+use Rattle.area.specs.Marks.{reserve, waw, raw, war, depends, lowest}
 use Rattle.area.specs.Checks.{openRefusal, Checked, Slotted}
 use Rattle.area.proofs.Checks.{checked-passed, program-slotted}
+use Rattle.area.proofs.LowestCells.{depends-lowest}
 use Rattle.steps.specs.declared.Gathered.the-variants as gathering
-use Rattle.steps.specs.declared.Reason.the-variants.{Waw, Raw, RawWithWar}
 use Rattle.steps.specs.declared.Settled.{Settled}
 use Rattle.steps.specs.declared.Settled.the-variants as settling
+use Rattle.steps.specs.declared.Verdict.{Verdict}
+use Rattle.steps.specs.declared.Verdict.the-variants as judged
 use Rattle.steps.specs.Answers.{numbersOfSettled}
 use Rattle.steps.specs.Opening.{cleared, openArea, OpenSays}
 use Rattle.steps.specs.Gathering.{gatherRefusal, runAt, reserved, gatheredBy, gatherAnswer, gatherArea, GatherSays}
 use Rattle.steps.specs.Gathering.{Gathers, RunsInto}
-use Rattle.steps.specs.Settling.{settleRefusal, byRule1, byRule2, decided, verdict, settledTable, settledArea, settleAnswer, settleTable, settleArea}
+use Rattle.steps.specs.Settling.{settleRefusal, byRule1, byRule2, decided, verdict, withCells, settledBy, settledTable, settledArea, settleAnswer, settleTable, settleArea}
 use Rattle.steps.specs.Settling.{SettleSays, Settles}
 use Rattle.steps.proofs.Views.{placed, marked, placed-stores, marked-reads}
 use Rattle.steps.proofs.Keeps.{fits, placed-checked, marked-checked}
@@ -98,37 +104,62 @@ module _ (image t a : List ℕ) (k : ℕ) (r : Refusal) (e : r ≡ settleRefusal
         area = done-as (λ r. a) e h (w .area);
       }
 
--- the decision, from the dependencies that have been found
-module _ (image a : List ℕ) (T k : ℕ) where
-  pub with-waw : waw T k a ≡ true → settling.Carried Waw ≡ verdict image T k a
-  unfolding verdict decided byRule1 byRule2
-  with-waw w = rw w (go (secondRule image))
+-- the decision, from the cells that have been found: a cell below T shows its dependency
+module _ (image a : List ℕ) (T k : ℕ) (s : Slotted T k a) where
+  has : (l : ListKind) (m : MarkKind) → lowest l m T k a < T → depends l m T k a ≡ true
+  has l m h = depends-lowest l m T k a s ∙ lt-ltb _ _ h
+
+  has-none : (l : ListKind) (m : MarkKind) → T ≤ lowest l m T k a → depends l m T k a ≡ false
+  has-none l m h = depends-lowest l m T k a s ∙ le-ltb _ _ h
+
+  -- what settling decides, with its cells
+  abbrev decision : Verdict
+  decision = withCells (verdict image T k a) T k a
+
+  pub with-waw : lowest Stores Write T k a < T → judged.Waw (lowest Stores Write T k a) ≡ decision
+  unfolding verdict decided byRule1 byRule2 withCells
+  with-waw w = rw (has Stores Write w) (go (secondRule image))
     where
-      go : (second : Bool) → settling.Carried Waw ≡ decided second true (raw T k a) (war T k a)
+      go : (second : Bool) → judged.Waw (lowest Stores Write T k a) ≡ withCells (decided second true (raw T k a) (war T k a)) T k a
       go true = refl
       go false = refl
 
-  module _ (w : waw T k a ≡ false) where
-    pub without-raw : raw T k a ≡ false → settling.Committed ≡ verdict image T k a
-    unfolding verdict decided byRule1 byRule2
-    without-raw r = rw (w, r) (go (secondRule image))
+  module _ (w : T ≤ lowest Stores Write T k a) where
+    pub without-raw : T ≤ lowest Reads Write T k a → judged.Commit ≡ decision
+    unfolding verdict decided byRule1 byRule2 withCells
+    without-raw r = rw (has-none Stores Write w, has-none Reads Write r) (go (secondRule image))
       where
-        go : (second : Bool) → settling.Committed ≡ decided second false false (war T k a)
+        go : (second : Bool) → judged.Commit ≡ withCells (decided second false false (war T k a)) T k a
         go true = refl
         go false = refl
 
-    module _ (r : raw T k a ≡ true) where
-      pub raw-by-rule-1 : secondRule image ≡ false → settling.Carried Raw ≡ verdict image T k a
-      unfolding verdict decided byRule1
-      raw-by-rule-1 s = rw (s, w, r)
+    module _ (r : lowest Reads Write T k a < T) where
+      pub raw-by-rule-1 : secondRule image ≡ false → judged.Raw (lowest Reads Write T k a) ≡ decision
+      unfolding verdict decided byRule1 withCells
+      raw-by-rule-1 e = rw (e, has-none Stores Write w, has Reads Write r)
 
-      pub raw-with-war : secondRule image ≡ true → war T k a ≡ true → settling.Carried RawWithWar ≡ verdict image T k a
-      unfolding verdict decided byRule2
-      raw-with-war s v = rw (s, w, r, v)
+      module _ (e : secondRule image ≡ true) where
+        pub raw-with-war : lowest Stores Read T k a < T → judged.RawWithWar (lowest Reads Write T k a) (lowest Stores Read T k a) ≡ decision
+        unfolding verdict decided byRule2 withCells
+        raw-with-war v = rw (e, has-none Stores Write w, has Reads Write r, has Stores Read v)
 
-      pub raw-alone : secondRule image ≡ true → war T k a ≡ false → settling.Committed ≡ verdict image T k a
-      unfolding verdict decided byRule2
-      raw-alone s v = rw (s, w, r, v)
+        pub raw-alone : T ≤ lowest Stores Read T k a → judged.Commit ≡ decision
+        unfolding verdict decided byRule2 withCells
+        raw-alone v = rw (e, has-none Stores Write w, has Reads Write r, has-none Stores Read v)
+
+-- without its cells it is the decision again
+pub cells-dropped : (image a : List ℕ) (T k : ℕ) → settledBy (withCells (verdict image T k a) T k a) ≡ verdict image T k a
+unfolding withCells verdict decided byRule1 byRule2
+cells-dropped image a T k = go (secondRule image) (waw T k a) (raw T k a) (war T k a)
+  where
+    go : (second w r x : Bool) → settledBy (withCells (decided second w r x) T k a) ≡ decided second w r x
+    go true true r x = refl
+    go true false true true = refl
+    go true false true false = refl
+    go true false false x = refl
+    go false true r x = refl
+    go false false true x = refl
+    go false false false x = refl
 
 pub after-settling : (image t a : List ℕ) (k : ℕ) (v : Settled) (t′ a′ : List ℕ) (state detail : ℕ) → v ≡ verdict image (length t) k a
     → t′ ≡ settledTable v k a t → a′ ≡ withState (length t) k state detail a → state ≡ numbersOfSettled v .state

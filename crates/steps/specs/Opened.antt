@@ -3,8 +3,8 @@ use Rattle.machine.specs.Opened as machine
 use Rattle.area.specs.Opened as area
 use Rattle.steps.specs.Opening.{openArea}
 use Rattle.steps.specs.Gathering.{stepRefusal, waits, gatherRefusal, reserved, gatheredBy, gatherAnswer, gatherArea}
-use Rattle.steps.specs.Settling.{isReady, settleRefusal, byRule1, byRule2, decided, verdict, settledTable, settledArea, settleAnswer, settleTable, settleArea}
+use Rattle.steps.specs.Settling.{isReady, settleRefusal, byRule1, byRule2, decided, verdict, withCells, settledTable, settledArea, settleAnswer, settleTable, settleArea}
 
 unfoldable pub opened : Unit {0}
-unfolding machine.opened area.opened openArea stepRefusal waits gatherRefusal reserved gatheredBy gatherAnswer gatherArea isReady settleRefusal byRule1 byRule2 decided verdict settledTable settledArea settleAnswer settleTable settleArea
+unfolding machine.opened area.opened openArea stepRefusal waits gatherRefusal reserved gatheredBy gatherAnswer gatherArea isReady settleRefusal byRule1 byRule2 decided verdict withCells settledTable settledArea settleAnswer settleTable settleArea
 opened = tt

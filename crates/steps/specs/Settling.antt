@@ -10,12 +10,16 @@ use Rattle.image.specs.Refusals as refusal
 use Rattle.image.specs.Refusals.{check, after, unless}
 use Rattle.image.specs.Image.{countOf, secondRule}
 use Rattle.slot.specs.States.{canSettle}
+use Rattle.slot.specs.declared.ListKind.the-variants.{Reads, Stores}
+use Rattle.area.specs.declared.MarkKind.the-variants.{Write, Read}
 use Rattle.area.specs.Layout.{stateOf, withState}
-use Rattle.area.specs.Marks.{waw, raw, war, committedTable}
+use Rattle.area.specs.Marks.{waw, raw, war, lowest, committedTable}
 use Rattle.area.specs.Checks.{noneWaits}
 use Rattle.steps.specs.declared.Reason.the-variants.{Waw, Raw, RawWithWar}
 use Rattle.steps.specs.declared.Settled.{Settled}
 use Rattle.steps.specs.declared.Settled.the-variants.{Refused, Committed, Carried}
+use Rattle.steps.specs.declared.Verdict.{Verdict}
+use Rattle.steps.specs.declared.Verdict.the-variants as judged
 use Rattle.steps.specs.Answers.{numbersOfSettled}
 use Rattle.steps.specs.Gathering.{stepRefusal}
 
@@ -41,6 +45,20 @@ decided second waw raw war = cond second (byRule2 waw raw war) (byRule1 waw raw)
 -- the decision on program k by the marks and the rule
 unfoldable pub verdict : List ℕ → ℕ → ℕ → List ℕ → Settled
 verdict image T k a = decided (secondRule image) (waw T k a) (raw T k a) (war T k a)
+
+-- the same with the lowest cell that shows each dependency of the reason (document 02, ask 3), and without the cells again
+unfoldable pub withCells : Settled → ℕ → ℕ → List ℕ → Verdict
+withCells (Refused r) T k a = judged.Commit
+withCells Committed T k a = judged.Commit
+withCells (Carried Waw) T k a = judged.Waw (lowest Stores Write T k a)
+withCells (Carried Raw) T k a = judged.Raw (lowest Reads Write T k a)
+withCells (Carried RawWithWar) T k a = judged.RawWithWar (lowest Reads Write T k a) (lowest Stores Read T k a)
+
+abbrev pub settledBy : Verdict → Settled
+settledBy judged.Commit = Committed
+settledBy (judged.Waw cell) = Carried Waw
+settledBy (judged.Raw cell) = Carried Raw
+settledBy (judged.RawWithWar cell other) = Carried RawWithWar
 
 -- "A committed program's stores go into the table at its settling, in the slot's order."
 unfoldable pub settledTable : Settled → ℕ → List ℕ → List ℕ → List ℕ

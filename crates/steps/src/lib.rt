@@ -7,7 +7,7 @@ ghost use Rattle.area.specs.Checks.{Checked, Measured, Slotted};
 ghost use Rattle.steps.specs.Answers.{numbersOfSettled, reasonNumber};
 ghost use Rattle.steps.specs.Opening.{OpenSays};
 ghost use Rattle.steps.specs.Gathering.{stepRefusal, gatherRefusal, GatherSays, Gathers, RunsInto};
-ghost use Rattle.steps.specs.Settling.{isReady, settleRefusal, verdict, settledTable, SettleSays, Settles};
+ghost use Rattle.steps.specs.Settling.{isReady, settleRefusal, verdict, withCells, settledBy, settledTable, SettleSays, Settles};
 
 // What gathering answers.
 pub enum Gathered {
@@ -27,6 +27,14 @@ pub enum Settled {
     Refused(image::Refusal),
     Committed,
     Carried(Reason),
+}
+
+// What settling decides, with the lowest cell that shows each dependency of the reason: of RAW with WAR that of RAW first.
+pub enum Verdict {
+    Commit,
+    Waw(usize),
+    Raw(usize),
+    RawWithWar(usize, usize),
 }
 
 // Opening sets the whole area to 0.
@@ -141,26 +149,41 @@ fn settle_refusal(image: &[u8], table: &[u32], area: &[u32], number: usize) -> i
 }
 
 // The decision on a program, by the marks and the rule: WAW is looked at first, and WAR only where Rule 2 has found RAW.
-pub fn judge(image: &[u8], area: &[u32], cells: usize, number: usize) -> Settled
+pub fn judge(image: &[u8], area: &[u32], cells: usize, number: usize) -> Verdict
     requires { ⌜ Slotted cells number (now area) ⌝ }
-    ensures { λ r. ⌜ r ≡ verdict (now (image .entry)) cells number (now (area .entry)) ⌝ }
+    ensures { λ r. ⌜ r ≡ withCells (verdict (now (image .entry)) cells number (now (area .entry))) cells number (now (area .entry)) ⌝ }
 {
     let reads = slot::ListKind::Reads;
     let stores = slot::ListKind::Stores;
     let write = area::MarkKind::Write;
-    if area::depends(area, cells, number, stores, write) {
-        return Settled::Carried(Reason::Waw);
+    let waw = area::lowest(area, cells, number, stores, write);
+    if waw < cells {
+        return Verdict::Waw(waw);
     }
-    if !area::depends(area, cells, number, reads, write) {
-        return Settled::Committed;
+    let raw = area::lowest(area, cells, number, reads, write);
+    if cells <= raw {
+        return Verdict::Commit;
     }
     if !image::second_rule(image) {
-        return Settled::Carried(Reason::Raw);
+        return Verdict::Raw(raw);
     }
-    if area::depends(area, cells, number, stores, area::MarkKind::Read) {
-        return Settled::Carried(Reason::RawWithWar);
+    let war = area::lowest(area, cells, number, stores, area::MarkKind::Read);
+    if war < cells {
+        return Verdict::RawWithWar(raw, war);
     }
-    Settled::Committed
+    Verdict::Commit
+}
+
+// The decision alone.
+pub fn settled_by(verdict: Verdict) -> Settled
+    ensures { λ r. ⌜ r ≡ settledBy verdict ⌝ }
+{
+    match verdict {
+        Verdict::Commit => Settled::Committed,
+        Verdict::Waw(_) => Settled::Carried(Reason::Waw),
+        Verdict::Raw(_) => Settled::Carried(Reason::Raw),
+        Verdict::RawWithWar(_, _) => Settled::Carried(Reason::RawWithWar),
+    }
 }
 
 // The reason's number in document 01.
@@ -214,7 +237,7 @@ pub fn settle_checked(image: &[u8], table: &mut [u32], area: &mut [u32], number:
     ensures { λ r. ⌜ Settles (now (image .entry)) (now (table .entry)) (now (area .entry)) number r (now (table .exit)) (now (area .exit)) ⌝ }
 {
     let cells = table.len();
-    let settled = judge(image, area, cells, number);
+    let settled = settled_by(judge(image, area, cells, number));
     store_committed(settled, table, area, number);
     area::write_state(area, cells, number, state_of(settled), detail_of(settled));
     settled

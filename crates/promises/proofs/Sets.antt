@@ -1,11 +1,11 @@
--- Sets of numbers: nobody, and one more. Assumes nothing.
+-- Sets of programs: nobody, and one more. Assumes nothing.
 use mathlib.Core.Path.{_≡_, refl, sym, ap, _∙_}
 use mathlib.Core.Logic.{_⊎_, inl, inr}
 use mathlib.Core.Bool.{Bool, true, false, _&&_, _||_}
 use Prim.Native.Nat.{ℕ}
 use lib.Dec.{eqb}
 use borrow.Author.Tests.{eqb-true, eqb-false, eq-eqb, ne-eqb}
 use Rattle.base.proofs.Bools.{known, both-and, and-false, or-cases, or-left, or-right}
 
 abbrev pub nobody : ℕ → Bool
 nobody j = false
