@@ -10,13 +10,14 @@ use archive::{Archive, Measure};
 use scenarios::{Scenario, CALLS};
 use table::Figures;
 
-/// Counting is slow. The programs of a scenario are much alike, and one in so many is enough.
-const ONE_IN: usize = 8;
+/// Counting is slow. Of a scenario with many programs, which are much alike, about so many are enough.
+const COUNTED: usize = 8;
 
 /// Instructions per call, the mean where there is a call for each program.
 fn counts(archive: &mut Archive, scenario: &Scenario) -> Figures {
     let mut sums = [(0.0, 0.0); CALLS.len()];
-    driven::run(archive, scenario, Measure::Instructions, ONE_IN, |call, instructions| {
+    let one_in = (scenario.programs / COUNTED).max(1);
+    driven::run(archive, scenario, Measure::Instructions, one_in, |call, instructions| {
         let (sum, calls) = sums[call];
         sums[call] = (sum + instructions as f64, calls + 1.0);
     });

@@ -10,7 +10,7 @@ use Rattle.slot.specs.declared.Group.the-variants.{Committed, Carried}
 use Rattle.area.specs.declared.MarkKind.the-variants.{Write, Read}
 use Rattle.area.specs.Layout.{marksAt, firstSlot, slotStart, areaWords, stateAt, detailAt, countAt, listAt, valuesAt}
 use Rattle.area.specs.Layout.{stateOf, detailOf, slotAt, inGroup, spanOf, readsOf, storesOf, valuesOf, withSlot, withState}
-use Rattle.area.specs.Marks.{markOf, listFor, lower, reserve, earlier, hit, waw, raw, war, storeAll, committedTable}
+use Rattle.area.specs.Marks.{markOf, named, listFor, lower, reserve, earlier, hit, waw, raw, war, lowestOf, lowerCell, lowest, storeAll, committedTable}
 use Rattle.area.specs.Sketch.{slot, area}
 use Rattle.area.specs.Opened.{opened}
 
@@ -149,6 +149,38 @@ all-three = refl
 own-and-later : map (λ mark. against (mark ∷ mark ∷ []) (mark ∷ mark ∷ [])) (2 ∷ 3 ∷ []) ≡ replicate 2 (false ∷ false ∷ false ∷ [])
 unfolding opened
 own-and-later = refl
+
+-- ---- document 02, ask 3: "the lowest cell that shows the dependency"
+
+-- of the cells 3, 0 and 2 of five, by the marks: the lowest by its number and not by its place; 5 where none does. Neither the mark of another cell nor
+-- program 2's own is against program 2
+lowest-by-number :
+    map (lowestOf 5 0 (3 ∷ 0 ∷ 2 ∷ []) 2) (
+    (1 ∷ 0 ∷ 2 ∷ 1 ∷ 0 ∷ [])
+    ∷ (0 ∷ 0 ∷ 2 ∷ 1 ∷ 0 ∷ [])
+    ∷ (3 ∷ 0 ∷ 3 ∷ 2 ∷ 0 ∷ [])
+    ∷ (3 ∷ 1 ∷ 0 ∷ 3 ∷ 1 ∷ [])
+    ∷ []
+    )
+    ≡ 0 ∷ 2 ∷ 3 ∷ 5 ∷ []
+unfolding opened
+lowest-by-number = refl
+
+-- with one cell more: a lower one that counts, one that does not, the same one, a higher one
+one-cell-more : map (lowerCell 0 2 (1 ∷ 3 ∷ 2 ∷ 1 ∷ []) 2) (0 ∷ 1 ∷ 2 ∷ 3 ∷ []) ≡ 0 ∷ 2 ∷ 2 ∷ 2 ∷ []
+unfolding opened
+one-cell-more = refl
+
+-- of program 2's own stores and reads: WAW and RAW by cell 0's write mark, WAR by cell 2's read mark
+lowest-of-three : lowest Stores Write 3 2 three ∷ lowest Reads Write 3 2 three ∷ lowest Stores Read 3 2 three ∷ lowest Reads Read 3 0 three ∷ [] ≡ 0 ∷ 0 ∷ 2 ∷ 3 ∷ []
+unfolding opened
+lowest-of-three = refl
+
+-- the program that a mark names
+names-one-less : map named (1 ∷ 2 ∷ 64 ∷ []) ≡ 0 ∷ 1 ∷ 63 ∷ []
+names-one-less = refl
+
+-- ---- stores
 
 -- "A committed program's stores go into the table at its settling, in the slot's order.": of a cell that stands twice the last counts
 stores-in-order : storeAll (1 ∷ 0 ∷ 1 ∷ []) (5 ∷ 6 ∷ 7 ∷ []) (9 ∷ 9 ∷ 9 ∷ []) ≡ 6 ∷ 7 ∷ 9 ∷ []
