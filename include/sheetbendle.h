@@ -33,7 +33,7 @@
  * frame down, as bench/run measures it on x86-64:
  *
  *     program   program_refusal   open   gather   settle   why   order   next_image
- *         120               120    136      760      200     0     968          216
+ *         120               120    136      760      200   200     968          216
  *
  * Refusals. Every call may be lent anything: it checks first, in the order of the numbers below
  * (the next image: 1 to 7, 9, 21 to 24, 11, 10), and the first that holds is returned. A refused

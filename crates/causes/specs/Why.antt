@@ -120,8 +120,11 @@ numbersFor reason cause war =
 abbrev pub noCause : Cause
 noCause = record { cell = 0; program = 0 }
 
+abbrev pub noReason : Refusal → WhyNumbers
+noReason r = record { refusal = r .number; reason = 0; cell = 0; program = 0; war-cell = 0; war-program = 0 }
+
 abbrev pub numbersOfWhy : Why → WhyNumbers
-numbersOfWhy (why.Refused r) = record { refusal = r .number; reason = 0; cell = 0; program = 0; war-cell = 0; war-program = 0 }
+numbersOfWhy (why.Refused r) = noReason r
 numbersOfWhy (why.Waw cause) = numbersFor reason.Waw cause noCause
 numbersOfWhy (why.Raw cause) = numbersFor reason.Raw cause noCause
 numbersOfWhy (why.RawWithWar cause war) = numbersFor reason.RawWithWar cause war

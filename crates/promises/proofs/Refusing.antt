@@ -12,6 +12,8 @@ use Rattle.steps.specs.Opening.{openArea}
 use Rattle.steps.specs.Answers.{numbersOfGathered, numbersOfSettled, refusedBy}
 use Rattle.steps.specs.Gathering.{gatherRefusal, gatherAnswer, gatherArea}
 use Rattle.steps.specs.Settling.{settleRefusal, settleAnswer, settleTable, settleArea}
+use Rattle.causes.specs.declared.answers.Before.the-variants as before
+use Rattle.causes.specs.Why.{noReason, numbersOfWhy, whyRefusal, whyAnswer, askRefusal, beforeAnswer}
 use Rattle.listing.specs.Listing.{orderRefusal, orderAnswer, orderList, numbersOfListed}
 use Rattle.carry.specs.Next.{nextRefusal, nextAnswer, nextOut, numbersOfNext}
 
@@ -38,6 +40,16 @@ settle-refused image t a k h = (
   unless-refused (settleRefusal image t a k) _ _ h,
   unless-refused (settleRefusal image t a k) _ _ h,
 )
+
+pub why-refused : (image t a : List ℕ) (k : ℕ) → (whyRefusal image t a k .number ≡ 0 → ⊥)
+    → numbersOfWhy (whyAnswer image t a k) ≡ noReason (whyRefusal image t a k)
+unfolding whyAnswer
+why-refused image t a k h = ap numbersOfWhy (unless-refused (whyRefusal image t a k) _ _ h)
+
+pub before-refused : (image t a : List ℕ) (k : ℕ) → (askRefusal image t a k .number ≡ 0 → ⊥)
+    → beforeAnswer image t a k ≡ before.Refused (askRefusal image t a k)
+unfolding beforeAnswer
+before-refused image t a k h = unless-refused (askRefusal image t a k) _ _ h
 
 pub order-refused : (image t a list : List ℕ) → (orderRefusal image t a list .number ≡ 0 → ⊥)
     → (numbersOfListed (orderAnswer image t a list) ≡ noCount (orderRefusal image t a list)) × (orderList image t a list ≡ list)
