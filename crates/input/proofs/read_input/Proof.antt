@@ -5,14 +5,14 @@ use mathlib.Core.Path.{_≡_}
 use lib.ListN.{length}
 use borrow.Author.Needs.{needs}
 use Rattle.io.proofs.Counting.{counts}
-use Rattle.batch.proofs.read_input.Statement.{statement}
-use Rattle.batch.proofs.read_input.Tie as tie
+use Rattle.input.proofs.read_input.Statement.{statement}
+use Rattle.input.proofs.read_input.Tie as tie
 
 abbrev Inv-loop : tie.InvT-loop
-Inv-loop input₀ there₀ input there = (there ≤ length input) × (length input ≡ length input₀)
+Inv-loop program input₀ there₀ input there = (there ≤ length input) × (length input ≡ length input₀)
 
 abbrev μ-loop : tie.MeasureT-loop
-μ-loop input₀ there₀ input there = length input - there
+μ-loop program input₀ there₀ input there = length input - there
 
 returns : tie.Need-returns Inv-loop μ-loop
 returns c = counts _ _ (search needs)

@@ -3,14 +3,14 @@ use Prim.Native.Nat.{_≤_, _-_}
 use mathlib.Core.Path.{_≡_}
 use lib.ListN.{length}
 use borrow.Author.Needs.{needs}
-use Rattle.report.proofs.print_table.Statement.{statement}
-use Rattle.report.proofs.print_table.Tie as tie
+use Rattle.results.proofs.print_table.Statement.{statement}
+use Rattle.results.proofs.print_table.Tie as tie
 
 abbrev Inv-loop : tie.InvT-loop
-Inv-loop table c₀ t3 c-end c = (c-end ≡ length table) × (c ≤ c-end)
+Inv-loop table c₀ c-end c = (c-end ≡ length table) × (c ≤ c-end)
 
 abbrev μ-loop : tie.MeasureT-loop
-μ-loop table c₀ t3 c-end c = c-end - c
+μ-loop table c₀ c-end c = c-end - c
 
 pub print-table-spec : {M : Type 1} → statement M
 print-table-spec =
@@ -19,10 +19,7 @@ print-table-spec =
     Inv-loop
     μ-loop
     (λ c. search needs)
-    (λ c κs. search needs)
     (λ c. search needs)
-    (λ c. search needs)
-    (λ c κs. search needs)
     (λ c. search needs)
     (λ c κs. search needs)
     (λ c. search needs)

@@ -3,8 +3,8 @@ use Prim.Native.Nat.{_≤_, _-_}
 use mathlib.Core.Path.{_≡_}
 use lib.ListN.{length}
 use borrow.Author.Needs.{needs}
-use Rattle.report.proofs.read_cells.Statement.{statement}
-use Rattle.report.proofs.read_cells.Tie as tie
+use Rattle.input.proofs.read_cells.Statement.{statement}
+use Rattle.input.proofs.read_cells.Tie as tie
 
 abbrev Inv-loop : tie.InvT-loop
 Inv-loop input table₀ n c₀ table c = (c ≤ n) × (n ≡ length table₀) × (length table ≡ length table₀)

@@ -3,8 +3,8 @@ use Prim.Native.Nat.{_≤_, _-_}
 use mathlib.Core.Path.{_≡_}
 use lib.ListN.{length}
 use borrow.Author.Needs.{needs}
-use Rattle.report.proofs.print_order.Statement.{statement}
-use Rattle.report.proofs.print_order.Tie as tie
+use Rattle.results.proofs.print_order.Statement.{statement}
+use Rattle.results.proofs.print_order.Tie as tie
 
 abbrev Inv-loop : tie.InvT-loop
 Inv-loop list count i₀ t5 i-end i = (i-end ≡ length list) × (i ≤ i-end)
