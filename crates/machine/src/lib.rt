@@ -24,9 +24,12 @@ pub enum Run {
 }
 
 // The kinds of a fault: a load, or a store, of a cell outside the table.
-const LOAD_FAULT: u8 = 1;
+pub const LOAD_FAULT: u8 = 1;
 
-const STORE_FAULT: u8 = 2;
+pub const STORE_FAULT: u8 = 2;
+
+// A fault's detail is so many times its kind, and then the instruction number.
+pub const KIND_UNIT: u32 = 256;
 
 // What a turn gives: the run goes on with the machine, or stops.
 pub enum Turn {
@@ -275,7 +278,7 @@ pub fn detail_of(run: Run) -> u32
     match run {
         Run::Finished => 0,
         Run::Rejected(code) => code as u32,
-        Run::Faulted { kind, at } => 256 * (kind as u32) + (at as u32),
+        Run::Faulted { kind, at } => KIND_UNIT * (kind as u32) + (at as u32),
     }
 }
 

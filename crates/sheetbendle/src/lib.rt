@@ -56,3 +56,10 @@ pub const FAULTED: u32 = slot::FAULTED;
 pub const COMMITTED: u32 = slot::COMMITTED;
 
 pub const CARRIED: u32 = slot::CARRIED;
+
+// A faulted program's detail is KIND_UNIT × kind + instruction number; the kinds are a load and a store.
+pub const KIND_UNIT: u32 = machine::KIND_UNIT;
+
+pub const LOAD_FAULT: u8 = machine::LOAD_FAULT;
+
+pub const STORE_FAULT: u8 = machine::STORE_FAULT;
