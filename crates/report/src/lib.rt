@@ -1,11 +1,18 @@
-// The batch program's work: document 01, "Bench sheet". It runs one batch from its input and prints what came of it on standard output. The numbers that
-// it prints come from the library's answers.
+// The work of the programs `batch` (document 01, "Bench sheet") and `why` (document 02, ask 3): a batch is run from its input, and then a page of it is
+// printed. The numbers on it come from the library's answers.
 ghost use mathlib.Core.Path.{_≡_};
 ghost use Prim.Native.Nat.{_+_, _*_, _≤_, _<_};
 ghost use lib.ListN.{length};
 ghost use Rattle.image.specs.Limits.{maxPrograms, maxCells};
 ghost use Rattle.area.specs.Layout.{areaWords};
+ghost use Rattle.reasons.specs.Asked.{Asked};
 ghost use Rattle.report.specs.Room.{Roomy};
+
+// What is wanted of a batch: what came of it, or why.
+enum Page {
+    Results,
+    Reasons,
+}
 
 // Notes what a step did to program k; a refused step did nothing.
 fn note(states: &mut [u32], details: &mut [u32], k: usize, numbers: sheetbendle::StepNumbers)
@@ -51,37 +58,56 @@ fn settle_all(
     }
 }
 
-// Gathers and settles in number order, and prints the end.
+// The page of a settled batch.
+fn print_page(
+    page: Page,
+    image: &[u8],
+    table: &[u32],
+    area: &[u32],
+    states: &[u32],
+    details: &[u32],
+)
+    requires { ⌜ Asked (now table) (now states) (now details) ⌝ }
+{
+    match page {
+        Page::Results => results::print_results(image, table, area, states, details),
+        Page::Reasons => reasons::print_reasons(image, table, area, states, details),
+    }
+}
+
+// Gathers and settles in number order, and prints the page.
 fn run_opened(
+    page: Page,
     image: &[u8],
     table: &mut [u32],
     area: &mut [u32],
     states: &mut [u32],
     details: &mut [u32],
 )
-    requires { ⌜ length (now states) ≡ length (now details) ⌝ }
+    requires { ⌜ Asked (now table) (now states) (now details) ⌝ }
 {
     gather_all(image, table, area, states, details);
     settle_all(image, table, area, states, details);
-    results::print_results(image, table, area, states, details);
+    print_page(page, image, table, area, states, details);
 }
 
 // Opens, and runs the batch, or prints the refusal.
 fn run_in(
+    page: Page,
     image: &[u8],
     table: &mut [u32],
     area: &mut [u32],
     states: &mut [u32],
     details: &mut [u32],
 )
-    requires { ⌜ length (now states) ≡ length (now details) ⌝ }
+    requires { ⌜ Asked (now table) (now states) (now details) ⌝ }
 {
     let refused = sheetbendle::open(image, table, area);
     if refused.number != 0 {
         text::print_refused(refused);
         return;
     }
-    run_opened(image, table, area, states, details);
+    run_opened(page, image, table, area, states, details);
 }
 
 // How many programs the header names, 0 where that is over the limit: opening then refuses the image before it looks at the area.
@@ -97,6 +123,7 @@ fn programs_of(image: &[u8]) -> u16
 
 // The batch of an image on a table, in those parts of what is lent that have the right size.
 fn run_on(
+    page: Page,
     image: &[u8],
     table: &mut [u32],
     area: &mut [u32],
@@ -109,6 +136,7 @@ fn run_on(
     let words = sheetbendle::area_words(table.len() as u16, programs);
     let n = programs as usize;
     run_in(
+        page,
         image,
         table,
         &mut area[0..words],
@@ -137,31 +165,41 @@ fn table_room() -> [u32; sheetbendle::Image::CELLS]
 }
 
 // The batch of an image on a table.
-fn run_batch(image: &[u8], table: &mut [u32])
-    requires { ⌜ length (now table) ≤ maxCells ⌝ }
+fn run_batch(page: Page, image: &[u8], table: &mut [u32])
+    requires { ⌜ (0 < length (now table)) × (length (now table) ≤ maxCells) ⌝ }
 {
     let mut area = area_room();
     let mut states = program_room();
     let mut details = program_room();
-    run_on(image, table, &mut area, &mut states, &mut details);
+    run_on(page, image, table, &mut area, &mut states, &mut details);
 }
 
 // The batch of an input whose prefix is whole: its cells into the table, and then its image on it.
-fn run_table(input: &[u8], cells: usize, room: &mut [u32])
-    requires { ⌜ (cells ≤ maxCells) × (cells ≤ length (now room)) × (2 + 4 * cells ≤ length (now input)) ⌝ }
+fn run_table(page: Page, input: &[u8], cells: usize, room: &mut [u32])
+    requires { ⌜ (0 < cells) × (cells ≤ maxCells) × (cells ≤ length (now room)) × (2 + 4 * cells ≤ length (now input)) ⌝ }
 {
     let table = &mut room[0..cells];
     input::read_cells(input, table);
-    run_batch(input::image_behind(input, cells), table);
+    run_batch(page, input::image_behind(input, cells), table);
 }
 
-// Runs the batch that the input holds and prints it, or the refusal as the whole output.
-pub fn print_batch(input: &[u8]) {
+// Runs the batch that the input holds and prints its page, or the refusal as the whole output.
+fn run_input(page: Page, input: &[u8]) {
     let cells = input::cells_of(input);
     if cells == 0 {
         text::print_refused(sheetbendle::Refusal::TABLE_SIZE);
         return;
     }
     let mut room = table_room();
-    run_table(input, cells, &mut room);
+    run_table(page, input, cells, &mut room);
+}
+
+// What came of the batch that the input holds.
+pub fn print_batch(input: &[u8]) {
+    run_input(Page::Results, input);
+}
+
+// Why each of its programs ended as it did.
+pub fn print_reasons(input: &[u8]) {
+    run_input(Page::Reasons, input);
 }

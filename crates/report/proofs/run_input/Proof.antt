@@ -1,14 +1,14 @@
 -- A prefix that is whole has its cells in the input. Assumes nothing.
 use native.Mathlib.Omega.{arith}
 use borrow.Author.Needs.{needs}
-use Rattle.report.proofs.print_batch.Statement.{statement}
-use Rattle.report.proofs.print_batch.Tie as tie
+use Rattle.report.proofs.run_input.Statement.{statement}
+use Rattle.report.proofs.run_input.Tie as tie
 
 run-table-requires : tie.Need-run-table-requires
-run-table-requires c κs = (search needs, omega arith, c .before .before .before .cells-of .ensures .1 (c .before .before .if1 .left))
+run-table-requires c κs = (omega arith, search needs, omega arith, c .before .before .before .cells-of .ensures .1 (c .before .before .if1 .left))
 
-pub print-batch-spec : {M : Type 1} → statement M
-print-batch-spec =
+pub run-input-spec : {M : Type 1} → statement M
+run-input-spec =
     tie.close
     (tie.spec
     (λ c κs. search needs)
