@@ -1,5 +1,5 @@
-// Runs the stored inputs of data/ through the batch program's work; its output is held to what an independent implementation printed (tests/vectors).
-// A pack is a list of inputs: four bytes of length, low first, and then the bytes.
+// Runs the stored inputs of data/ through the work of `batch`, and then of `why`; its output is held to what an independent implementation printed
+// (tests/vectors). A pack is a list of inputs: four bytes of length, low first, and then the bytes.
 
 ghost use mathlib.Core.Path.{_≡_};
 ghost use Prim.Native.Nat.{_≤_, _<_};
@@ -32,52 +32,70 @@ fn room() -> [u8; ROOM]
     [0; ROOM]
 }
 
-// Reads an input that fills what is lent, and runs it.
-fn run_input(pack: i32, input: &mut [u8]) {
+// The line above an input's page.
+fn print_heading(name: &[u8], why: bool, number: u64) {
+    text::print(name);
+    if why {
+        text::print(b" why");
+    }
+    text::print_with(b" ", number);
+    text::print(b"\n");
+}
+
+// Reads an input that fills what is lent, and runs it for the page of `batch`, or of `why`.
+fn run_input(pack: i32, input: &mut [u8], why: bool) {
     let got = io::read_full(pack, input);
-    report::print_batch(&input[..got]);
+    if why {
+        report::print_reasons(&input[..got]);
+    } else {
+        report::print_batch(&input[..got]);
+    }
 }
 
 // Runs the next input of a pack, and answers whether there was one.
-fn run_next(pack: i32, name: &[u8], number: u64) -> bool {
+fn run_next(pack: i32, name: &[u8], why: bool, number: u64) -> bool {
     let mut head = [0u8; 4];
     if io::read_full(pack, &mut head) < 4 {
         return false;
     }
-    io::write_all(1, name);
-    io::write_all(1, b" ");
-    io::print_decimal(1, number);
-    io::write_all(1, b"\n");
+    print_heading(name, why, number);
     let mut space = room();
     let n = length_of(&head);
-    run_input(pack, &mut space[0..n]);
+    run_input(pack, &mut space[0..n], why);
     true
 }
 
 // Runs every input of a pack. No pack has as many as the loop would take.
-fn run_all(pack: i32, name: &[u8]) {
+fn run_all(pack: i32, name: &[u8], why: bool) {
     let mut number: u64 = 0;
     while number < 1000000 {
-        if !run_next(pack, name, number) {
+        if !run_next(pack, name, why, number) {
             return;
         }
         number += 1;
     }
 }
 
-fn run_pack(file: &[u8], name: &[u8]) {
+// Opens a pack and runs it.
+fn run_pack(file: &[u8], name: &[u8], why: bool) {
     let pack = os::open_read(file);
     if pack < 0 {
         os::fail(file);
         return;
     }
-    run_all(pack, name);
+    run_all(pack, name, why);
     libc::close(pack);
 }
 
+// Runs the four packs.
+fn run_packs(why: bool) {
+    run_pack(b"bench.pack", b"bench", why);
+    run_pack(b"good.pack", b"good", why);
+    run_pack(b"edge.pack", b"edge", why);
+    run_pack(b"damaged.pack", b"damaged", why);
+}
+
 fn main() {
-    run_pack(b"bench.pack", b"bench");
-    run_pack(b"good.pack", b"good");
-    run_pack(b"edge.pack", b"edge");
-    run_pack(b"damaged.pack", b"damaged");
+    run_packs(false);
+    run_packs(true);
 }
