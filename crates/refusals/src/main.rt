@@ -1,4 +1,4 @@
-// Earns each row of document 01's refusal table, with everything before it in order, and prints what was asked and the number that came back.
+// Earns each row of the refusal table (document 01, and document 02's ask 3), with everything before it in order, and prints what was asked and the number that came back.
 // Each line of the output is one call. The batch is the bench sheet's case 2, on the cells x, y and z.
 ghost use mathlib.Core.Path.{_≡_};
 ghost use Prim.Native.Nat.{_+_, _<_, _≤_};
@@ -131,6 +131,13 @@ fn show_settle(what: &[u8], table: &mut [u32], area: &mut [u32], number: usize) 
     show(what, sheetbendle::of_settled(answer).refusal);
 }
 
+// Shows what why says with case 2's image.
+fn show_why(what: &[u8], table: &[u32], area: &[u32], number: usize) {
+    let image = example();
+    let answer = sheetbendle::why(&image, table, area, number);
+    show(what, sheetbendle::of_why(answer).refusal);
+}
+
 // Shows what the listed order says with case 2's image, into a list of so many entries.
 fn show_order(what: &[u8], table: &[u32], area: &[u32], entries: usize)
     requires { ⌜ entries ≤ 3 ⌝ }
@@ -252,9 +259,10 @@ fn of_settling(table: &mut [u32], area: &mut [u32]) {
     show_settle(b"settle 0 again", table, area, 0);
 }
 
-// Rows 9 and 10, at the listed order and the next image, with the settlings that these wait for.
+// Rows 9 and 10, at why, the listed order and the next image, with the settlings that these wait for.
 fn of_order(table: &mut [u32], area: &mut [u32]) {
     let fresh = example();
+    show_why(b"why 0 while two are gathered", table, area, 0);
     show_order(b"order while two are gathered", table, area, PROGRAMS);
     show_next(
         b"next image while two are gathered",
@@ -267,6 +275,19 @@ fn of_order(table: &mut [u32], area: &mut [u32]) {
     show_settle(b"settle 2", table, area, 2);
     show_order(b"order into two entries", table, area, 2);
     show_order(b"order", table, area, PROGRAMS);
+}
+
+// Rows 8, 13 and 15, at why: program 0 is committed, and program 2 carried for reason 1.
+fn of_why(table: &[u32], area: &mut [u32])
+    requires { ⌜ areaWords 3 3 ≡ length (now area) ⌝ }
+{
+    show_why(b"why 3 of three", table, area, PROGRAMS);
+    show_why(b"why 0, which is committed", table, area, 0);
+    show_why(b"why 2", table, area, 2);
+    let detail = slot_of(2) + slot::DETAIL;
+    put(area, detail, 2);
+    show_why(b"why 2 with another reason's detail", table, area, 2);
+    put(area, detail, 1);
 }
 
 // Rows 21 to 24, at the next image.
@@ -312,6 +333,7 @@ fn run_batch(table: &mut [u32], area: &mut [u32])
     of_waiting(table, area);
     of_settling(table, area);
     of_order(table, area);
+    of_why(table, area);
     of_fresh(table, area);
     of_next(table, area);
 }
