@@ -1,6 +1,6 @@
 -- The search for the lowest cell that shows a dependency: a turn of it, and that it finds one exactly where there is one. Assumes nothing.
 use Prim.Native.Nat.{ℕ, _+_, _≤_, _<_}
-use mathlib.Core.Path.{_≡_, refl, sym, ap, subst, _∙_}
+use mathlib.Core.Path.{_≡_, refl, sym, subst, _∙_}
 use mathlib.Core.Logic.{_⊎_, inl, inr}
 use mathlib.Core.Bool.{Bool, true, false, cond, _&&_}
 use mathlib.Core.List.{List}
@@ -8,7 +8,7 @@ use native.Mathlib.Omega.{arith}
 use lib.Dec.{ltb}
 use lib.ListN.{length, getD}
 use borrow.Author.Tests.{ltb-true, ltb-false, lt-ltb}
-use Rattle.base.specs.Words.{least, has, words}
+use Rattle.base.specs.Words.{has, words}
 use Rattle.base.proofs.Bools.{clash, and-both, both-and, same-test}
 use Rattle.base.proofs.Leasts.{Smallest, least-smallest, is-least}
 use Rattle.base.proofs.Members.{has-getD}

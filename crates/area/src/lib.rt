@@ -4,7 +4,7 @@ ghost use Prim.Native.Nat.{_+_, _<_, _≤_};
 ghost use lib.ListN.{length};
 ghost use Rattle.base.specs.Words.{words};
 ghost use Rattle.base.specs.Masks.{maskOf};
-ghost use Rattle.image.specs.Limits.{maxPrograms, maxCells};
+ghost use Rattle.image.specs.Limits.{maxPrograms};
 ghost use Rattle.image.specs.Image.{refusalOf};
 ghost use Rattle.area.specs.Layout.{areaWords, marksAt, slotStart, spanOf, listOf, stateOf, detailOf, inGroup, withState};
 ghost use Rattle.area.specs.Marks.{lower, reserve, earlier, named, lowerCell, lowestOf, lowest, storedBy, committedTable};

@@ -1,15 +1,12 @@
 -- What the calls say, from what their parts did. Assumes nothing.
-use Prim.Native.Nat.{ℕ, _<_}
-use mathlib.Core.Path.{_≡_, refl, sym, ap, subst, _∙_}
-use mathlib.Core.Bool.{Bool, true, false}
+use Prim.Native.Nat.{ℕ}
+use mathlib.Core.Path.{_≡_, refl, sym, ap, _∙_}
 use mathlib.Core.List.{List}
 use native.Mathlib.Omega.{arith}
 use lib.ListN.{length}
 use borrow.Author.Tests.{eq-eqb, ne-eqb}
 use Rattle.image.specs.declared.Refusal.{Refusal}
 use Rattle.image.specs.Refusals as refusal
-use Rattle.image.specs.Refusals.{check}
-use Rattle.image.specs.Image.{countOf, secondRule}
 use Rattle.image.proofs.Refusing.{number-of, first-refuses, refused-as, done-as, last-decides}
 use Rattle.area.specs.Layout.{detailOf}
 use Rattle.steps.specs.declared.Reason.the-variants.{Waw, Raw, RawWithWar}

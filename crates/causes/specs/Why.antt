@@ -1,6 +1,6 @@
 -- Document 02, ask 3, "Tell me why I was carried": the reason with its cause, and what the calls answer. All that they are lent they are lent to read.
 -- Assumes nothing.
-use Prim.Native.Nat.{ℕ, _<_}
+use Prim.Native.Nat.{ℕ}
 use mathlib.Core.Path.{_≡_}
 use mathlib.Core.Bool.{Bool, false, cond}
 use mathlib.Core.List.{List}
@@ -39,29 +39,17 @@ explained reason.Waw T k a = why.Waw (wawCause T k a)
 explained reason.Raw T k a = why.Raw (rawCause T k a)
 explained reason.RawWithWar T k a = why.RawWithWar (rawCause T k a) (warCause T k a)
 
--- 15, "its detail is not the reason that its slot, the marks and the rule give", also where they give none: settling's own decision says which
-unfoldable pub isReason : Settled → ℕ → Bool
-isReason (settled.Refused r) detail = false
-isReason settled.Committed detail = false
-isReason (settled.Carried reason) detail = eqb detail (reasonNumber reason)
-
+-- the same of settling's own decision; one that is not to carry has no reason
 unfoldable pub explainedBy : Settled → ℕ → ℕ → List ℕ → Why
 explainedBy (settled.Refused r) T k a = why.Refused refusal.reason
 explainedBy settled.Committed T k a = why.Refused refusal.reason
 explainedBy (settled.Carried reason) T k a = explained reason T k a
 
--- the same from the cells that settling found, which have marks that name somebody
-unfoldable pub toldBy : Verdict → ℕ → List ℕ → Why
-toldBy judged.Commit T a = why.Refused refusal.reason
-toldBy (judged.Waw cell) T a = why.Waw (causeAt Write T cell a)
-toldBy (judged.Raw cell) T a = why.Raw (causeAt Write T cell a)
-toldBy (judged.RawWithWar cell other) T a = why.RawWithWar (causeAt Write T cell a) (causeAt Read T other a)
-
-abbrev pub NamesAll : Verdict → ℕ → List ℕ → Type 0
-NamesAll judged.Commit T a = Unit {0}
-NamesAll (judged.Waw cell) T a = NamesOne Write T cell a
-NamesAll (judged.Raw cell) T a = NamesOne Write T cell a
-NamesAll (judged.RawWithWar cell other) T a = NamesOne Write T cell a × NamesOne Read T other a
+-- 15, "its detail is not the reason that its slot, the marks and the rule give", also where they give none
+unfoldable pub isReason : Settled → ℕ → Bool
+isReason (settled.Refused r) detail = false
+isReason settled.Committed detail = false
+isReason (settled.Carried reason) detail = eqb detail (reasonNumber reason)
 
 -- ---- the checks, in their order
 
@@ -142,3 +130,19 @@ beforeAnswer image t a k = unless (askRefusal image t a k) before.Refused (befor
 -- The contract of the call.
 pub record BeforeSays (image t a : List ℕ) (k : ℕ) (r : Before) : Type 0 where
   pub answer : r ≡ beforeAnswer image t a k
+
+-- ---- what the functions need and leave
+
+-- the reason with its cause, from the cells that settling found
+unfoldable pub toldBy : Verdict → ℕ → List ℕ → Why
+toldBy judged.Commit T a = why.Refused refusal.reason
+toldBy (judged.Waw cell) T a = why.Waw (causeAt Write T cell a)
+toldBy (judged.Raw cell) T a = why.Raw (causeAt Write T cell a)
+toldBy (judged.RawWithWar cell other) T a = why.RawWithWar (causeAt Write T cell a) (causeAt Read T other a)
+
+-- each of these cells has a mark that names somebody
+abbrev pub NamesAll : Verdict → ℕ → List ℕ → Type 0
+NamesAll judged.Commit T a = Unit {0}
+NamesAll (judged.Waw cell) T a = NamesOne Write T cell a
+NamesAll (judged.Raw cell) T a = NamesOne Write T cell a
+NamesAll (judged.RawWithWar cell other) T a = NamesOne Write T cell a × NamesOne Read T other a

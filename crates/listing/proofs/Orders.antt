@@ -1,12 +1,12 @@
 -- The call for the listed order: what no refusal shows, and what the call answers and leaves. Assumes nothing.
-use mathlib.Core.Path.{_≡_, refl, _∙_}
-use mathlib.Core.Bool.{Bool, true, false, cond}
+use mathlib.Core.Path.{_≡_, _∙_}
+use mathlib.Core.Bool.{true, false, cond}
 use mathlib.Core.List.{List}
 use Prim.Native.Nat.{ℕ, _≤_}
 use native.Mathlib.Omega.{arith}
 use lib.Dec.{leb}
 use lib.ListN.{length}
-use borrow.Author.Tests.{leb-true, eq-eqb, eqb-true, eqb-false}
+use borrow.Author.Tests.{leb-true, eqb-true, eqb-false}
 use Rattle.image.specs.declared.Refusal.{Refusal}
 use Rattle.image.specs.Refusals as refusal
 use Rattle.image.specs.Refusals.{check, unless}

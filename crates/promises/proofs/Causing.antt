@@ -21,7 +21,7 @@ use Rattle.area.specs.Marks.{listFor, lowest}
 use Rattle.area.proofs.Marks.{is-earlier}
 use Rattle.area.proofs.LowestCells.{lowest-shows, lowest-low}
 use Rattle.causes.specs.Causes.{causeOf}
-use Rattle.promises.specs.Paper.{Batch, sets, keepsStores}
+use Rattle.promises.specs.Paper.{Batch, sets}
 use Rattle.promises.specs.Laid.{markOn, areaOn, all}
 use Rattle.promises.specs.Causes.{TrueCause}
 use Rattle.promises.proofs.SettleStep.{own-list}

@@ -14,18 +14,17 @@ use Rattle.base.proofs.Bools.{known, clash, not-true}
 use Rattle.base.proofs.Members.{meets-in}
 use Rattle.image.specs.Image.{countOf}
 use Rattle.image.proofs.Refusing.{number-of, unless-done}
-use Rattle.slot.specs.declared.ListKind.the-variants.{Reads, Stores}
+use Rattle.slot.specs.declared.ListKind.the-variants.{Reads}
 use Rattle.area.specs.declared.MarkKind.the-variants.{Write}
 use Rattle.area.specs.Layout.{readsOf, storesOf}
 use Rattle.area.specs.Marks.{depends}
 use Rattle.causes.specs.declared.answers.Cause.{Cause}
 use Rattle.causes.specs.declared.answers.Before.the-variants as before
-use Rattle.causes.specs.Causes.{causeOf}
 use Rattle.causes.specs.Why.{askRefusal, beforeOf, beforeAnswer}
 use Rattle.listing.specs.Order.{Ordered}
 use Rattle.listing.specs.Listing.{orderOf}
 use Rattle.listing.proofs.Orders.{order-is}
-use Rattle.promises.specs.Paper.{Batch, batchOf, raw}
+use Rattle.promises.specs.Paper.{Batch, batchOf}
 use Rattle.promises.specs.Laid.{World}
 use Rattle.promises.specs.History.{RunToEnd}
 use Rattle.promises.specs.Causes.{TrueRaw, TrueBefore, behind}

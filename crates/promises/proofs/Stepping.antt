@@ -27,7 +27,7 @@ use Rattle.area.specs.Marks.{storeAll}
 use Rattle.area.specs.Checks.{callRefusal, openRefusal, statesFrom, Checked}
 use Rattle.area.proofs.Checks.{few, passed-good, checked-is, open-shows}
 use Rattle.steps.specs.declared.Settled.the-variants.{Committed, Carried}
-use Rattle.steps.specs.Gathering.{runAt, stepRefusal, waits, gatherRefusal, gatheredArea, gatherArea}
+use Rattle.steps.specs.Gathering.{stepRefusal, waits, gatherRefusal, gatheredArea, gatherArea}
 use Rattle.steps.specs.Settling.{isReady, settleRefusal, verdict, settledTable, settledArea, settleTable, settleArea}
 use Rattle.promises.specs.Paper.{Batch, batchOf, writeSet, newValues, getsSettled, commits, reason}
 use Rattle.promises.specs.Laid.{areaOn, tableOn}

@@ -3,7 +3,7 @@
 use Prim.Native.Nat.{ℕ, _<_}
 use mathlib.Core.Path.{_≡_, refl, sym, ap, _∙_}
 use mathlib.Core.Logic.{_⊎_, inl, inr}
-use mathlib.Core.Bool.{Bool, true, false, not, cond, _&&_}
+use mathlib.Core.Bool.{true, false, not, cond}
 use mathlib.Core.List.{List}
 use native.Mathlib.Omega.{arith}
 use lib.ListN.{length}
@@ -23,7 +23,7 @@ use Rattle.area.proofs.Checks.{checked-is}
 use Rattle.steps.specs.declared.Reason.{Reason}
 use Rattle.steps.specs.declared.Reason.the-variants.{Waw, Raw, RawWithWar}
 use Rattle.steps.specs.declared.Settled.{Settled}
-use Rattle.steps.specs.declared.Settled.the-variants.{Committed, Carried}
+use Rattle.steps.specs.declared.Settled.the-variants.{Carried}
 use Rattle.steps.specs.Answers.{reasonNumber, numbersOfSettled}
 use Rattle.steps.specs.Settling.{verdict}
 use Rattle.causes.specs.declared.answers.Cause.{Cause}
