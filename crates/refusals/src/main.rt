@@ -259,8 +259,8 @@ fn of_settling(table: &mut [u32], area: &mut [u32]) {
     show_settle(b"settle 0 again", table, area, 0);
 }
 
-// Rows 9 and 10, at why, the listed order and the next image, with the settlings that these wait for.
-fn of_order(table: &mut [u32], area: &mut [u32]) {
+// Row 9, at why, the listed order and the next image.
+fn of_unsettled(table: &[u32], area: &[u32]) {
     let fresh = example();
     show_why(b"why 0 while two are gathered", table, area, 0);
     show_order(b"order while two are gathered", table, area, PROGRAMS);
@@ -271,19 +271,31 @@ fn of_order(table: &mut [u32], area: &mut [u32]) {
         &fresh,
         ROOM,
     );
+}
+
+// The settlings that these wait for.
+fn of_settled(table: &mut [u32], area: &mut [u32]) {
     show_settle(b"settle 1", table, area, 1);
     show_settle(b"settle 2", table, area, 2);
+}
+
+// Row 10, at the listed order.
+fn of_order(table: &[u32], area: &[u32]) {
     show_order(b"order into two entries", table, area, 2);
     show_order(b"order", table, area, PROGRAMS);
 }
 
-// Rows 8, 13 and 15, at why: program 0 is committed, and program 2 carried for reason 1.
-fn of_why(table: &[u32], area: &mut [u32])
-    requires { ⌜ areaWords 3 3 ≡ length (now area) ⌝ }
-{
+// Rows 8 and 13, at why: program 0 is committed, program 2 carried for reason 1.
+fn of_why(table: &[u32], area: &[u32]) {
     show_why(b"why 3 of three", table, area, PROGRAMS);
     show_why(b"why 0, which is committed", table, area, 0);
     show_why(b"why 2", table, area, 2);
+}
+
+// Row 15, at why.
+fn of_detail(table: &[u32], area: &mut [u32])
+    requires { ⌜ areaWords 3 3 ≡ length (now area) ⌝ }
+{
     let detail = slot_of(2) + slot::DETAIL;
     put(area, detail, 2);
     show_why(b"why 2 with another reason's detail", table, area, 2);
@@ -323,8 +335,8 @@ fn of_next(table: &[u32], area: &[u32]) {
     show_next(b"next image into 106 bytes", table, area, &fresh, 106);
 }
 
-// The batch, step by step, on a table and in an area of its size.
-fn run_batch(table: &mut [u32], area: &mut [u32])
+// The steps of the batch, up to the first settling.
+fn of_steps(table: &mut [u32], area: &mut [u32])
     requires { ⌜ areaWords 3 3 ≡ length (now area) ⌝ }
 {
     of_opening(table, area);
@@ -332,8 +344,25 @@ fn run_batch(table: &mut [u32], area: &mut [u32])
     of_gathering(table, area);
     of_waiting(table, area);
     of_settling(table, area);
+}
+
+// Its end: what is asked too early, the other settlings, and what is asked then.
+fn of_end(table: &mut [u32], area: &mut [u32])
+    requires { ⌜ areaWords 3 3 ≡ length (now area) ⌝ }
+{
+    of_unsettled(table, area);
+    of_settled(table, area);
     of_order(table, area);
     of_why(table, area);
+    of_detail(table, area);
+}
+
+// The batch, step by step, on a table and in an area of its size.
+fn run_batch(table: &mut [u32], area: &mut [u32])
+    requires { ⌜ areaWords 3 3 ≡ length (now area) ⌝ }
+{
+    of_steps(table, area);
+    of_end(table, area);
     of_fresh(table, area);
     of_next(table, area);
 }
