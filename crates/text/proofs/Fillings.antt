@@ -1,0 +1,113 @@
+-- Laws of a text with numbers in it. Assumes nothing.
+use mathlib.Core.Path.{_≡_, refl, sym, ap, _∙_}
+use mathlib.Core.Logic.{_⊎_, inl, inr}
+use mathlib.Core.Bool.{Bool, true, false, cond, _&&_}
+use mathlib.Core.List.{List, [], _∷_, _++_, append-assoc, append-nil}
+use Prim.Native.Nat.{ℕ, zero, suc, _+_, _*_, _≤_, _<_}
+use native.Mathlib.Omega.{arith}
+use native.Mathlib.Numerals.{add-one}
+use lib.Dec.{eqb, ltb}
+use lib.ListN.{length, getD, drop, length-append, drop-of-length-le}
+use lib.Seq.{drop-cons}
+use borrow.Author.Tests.{ltb-true, ltb-false}
+use Rattle.base.proofs.Bools.{known, and-both}
+use Rattle.text.specs.declared.Filling.{Filling}
+use Rattle.text.specs.Decimal.{decimal}
+use Rattle.text.specs.Filled.{hash, shown, left, filled, texts, Shown}
+use Rattle.text.specs.Writing.{Wrote, Room}
+use Rattle.text.proofs.Writing.{wrote-none, room-first, room-then, wrote-both}
+use Rattle.text.proofs.Decimals.{decimal-short}
+
+-- ---- one byte: a # while there is a number, and any other
+
+module _ (b j : ℕ) (ns : List ℕ) where
+  pub shown-number : eqb b hash && ltb j (length ns) ≡ true → (shown b (drop j ns) ≡ decimal (getD ns j 0)) × (left b (drop j ns) ≡ drop (j + 1) ns)
+  unfolding shown left
+  shown-number h =
+      let p = and-both (eqb b hash) (ltb j (length ns)) h in
+      let e = drop-cons ns j 0 (ltb-true _ _ (p .1)) in
+      (rw (e, p .0), rw (e, p .0, add-one j))
+
+  pub shown-itself : eqb b hash && ltb j (length ns) ≡ false → (shown b (drop j ns) ≡ b ∷ []) × (left b (drop j ns) ≡ drop j ns)
+  unfolding shown left
+  shown-itself h = by (known (eqb b hash))
+    where
+      other : (xs : List ℕ) → eqb b hash ≡ false → (shown b xs ≡ b ∷ []) × (left b xs ≡ xs)
+      other [] e = (refl, refl)
+      other (n ∷ xs) e = (rw e, rw e)
+      by : (eqb b hash ≡ true) ⊎ (eqb b hash ≡ false) → (shown b (drop j ns) ≡ b ∷ []) × (left b (drop j ns) ≡ drop j ns)
+      by (inl e) = let f : drop j ns ≡ [] = drop-of-length-le ns (ltb-false j (length ns) (rw e at h)) in (rw f, rw f)
+      by (inr e) = other (drop j ns) e
+
+-- ---- a text that has come to its byte k: what stands there, and what is still to come
+
+pub record Half (d : List ℕ) (at : ℕ) (t ns : List ℕ) (k : ℕ) (out : List ℕ) (r : Filling) : Type 0 where
+  pub so-far : List ℕ
+  pub wrote : Wrote d at so-far out (r .to)
+  pub whole : filled t ns ≡ so-far ++ filled (drop k t) (drop (r .used) ns)
+
+pub half-none : (d : List ℕ) (at : ℕ) (t ns : List ℕ) → Half d at t ns 0 d (record { to = at; used = 0 })
+half-none d at t ns = record { so-far = []; wrote = wrote-none d at; whole = refl }
+
+module _ {d : List ℕ} {at : ℕ} {t ns : List ℕ} {k : ℕ} {out : List ℕ} {p : Filling} (room : Room d at (filled t ns)) (h : Half d at t ns k out p) where
+  pub half-end : k ≡ length t → Wrote d at (filled t ns) out (p .to)
+  unfolding filled
+  half-end e =
+      let f : drop k t ≡ [] = drop-of-length-le t {i = k} (omega (arith, e)) in
+      let g : filled t ns ≡ h .so-far = h .whole ∙ rw f (append-nil (h .so-far)) in
+      rw g (h .wrote)
+
+  -- byte k
+  next : k < length t → filled t ns ≡ h .so-far ++ (shown (getD t k 0) (drop (p .used) ns) ++ filled (drop (k + 1) t) (left (getD t k 0) (drop (p .used) ns)))
+  unfolding filled
+  next l = h .whole ∙ rw (drop-cons t k 0 l, add-one k)
+
+  pub half-room : k < length t → Room out (p .to) (shown (getD t k 0) (drop (p .used) ns))
+  half-room l = room-first _ _ (room-then (h .so-far) _ (rw (next l) at room) (h .wrote))
+
+  pub half-more : k < length t → {o : List ℕ} {r : Filling} → Shown out p (getD t k 0) ns o r → Half d at t ns (k + 1) o r
+  half-more l s =
+      let x = shown (getD t k 0) (drop (p .used) ns) in
+      let e = next l ∙ sym (append-assoc (h .so-far) x _) in
+      record {
+        so-far = h .so-far ++ x;
+        wrote = wrote-both (h .so-far) x (room-first (h .so-far ++ x) _ (rw e at room)) (h .wrote) (s .wrote);
+        whole = e ∙ rw (s .numbers);
+      }
+
+-- ---- how long a text is with its numbers, which have 32 bits: at most 10 digits for each #
+
+abbrev pub Words : List ℕ → Type 0
+Words [] = Unit {0}
+Words (n ∷ ns) = (n < 4294967296) × Words ns
+
+shown-short : (b : ℕ) (ns : List ℕ) → Words ns → (length (shown b ns) + 10 * length (left b ns) ≤ 1 + 10 * length ns) × Words (left b ns)
+unfolding shown left
+shown-short b [] h = (omega arith, tt)
+shown-short b (n ∷ ns) h = go (eqb b hash)
+  where
+    go : (x : Bool) → (length (cond x (decimal n) (b ∷ [])) + 10 * length (cond x ns (n ∷ ns)) ≤ 1 + 10 * length (n ∷ ns)) × Words (cond x ns (n ∷ ns))
+    go true = (omega (arith, decimal-short n (h .0)), h .1)
+    go false = (omega arith, h)
+
+pub filled-short : (t ns : List ℕ) → Words ns → length (filled t ns) ≤ length t + 10 * length ns
+unfolding filled
+filled-short [] ns h = omega arith
+filled-short (b ∷ bs) ns h =
+    let s = shown-short b ns h in
+    rw length-append (omega (arith, s .0, filled-short bs (left b ns) (s .1)))
+
+-- ---- texts one behind the other
+
+pub texts-none : (f : ℕ → List ℕ) → texts f 0 ≡ []
+unfolding texts
+texts-none f = refl
+
+pub texts-more : (f : ℕ → List ℕ) (k : ℕ) → texts f (k + 1) ≡ texts f k ++ f k
+unfolding texts
+texts-more f k = rw (add-one k)
+
+pub texts-short : (f : ℕ → List ℕ) (n most : ℕ) → ((k : ℕ) → k < n → length (f k) ≤ most) → length (texts f n) ≤ n * most
+unfolding texts
+texts-short f zero most h = omega arith
+texts-short f (suc n) most h = rw length-append (omega (arith, h n (omega arith), texts-short f n most (λ k l. h k (omega arith))))

@@ -1,0 +1,4 @@
+pub mod Writing
+pub mod Decimals
+pub mod Fillings
+pub mod Cases

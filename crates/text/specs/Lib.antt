@@ -1,0 +1,5 @@
+pub mod Ascii
+pub mod Decimal
+pub mod Filled
+pub mod Writing
+pub mod Opened
