@@ -22,7 +22,7 @@ fn read_on(program: &[u8], input: &mut [u8], there: usize) -> usize
     let rest = &mut input[there..];
     let got = libc::read(IN, rest);
     if got < 0 {
-        text::complain(program, b"standard input cannot be read");
+        output::complain(program, b"standard input cannot be read");
     }
     io::count(got, rest)
 }

@@ -3,7 +3,7 @@
 ghost use Prim.Native.Nat.{_≤_, _<_};
 ghost use lib.ListN.{length};
 ghost use Rattle.reasons.specs.Asked.{Asked};
-use text::print_refused;
+use output::print_refused;
 
 // A committed program.
 fn print_committed(image: &[u8], table: &[u32], area: &[u32], number: usize) {
@@ -109,7 +109,7 @@ pub fn print_reasons(image: &[u8], table: &[u32], area: &[u32], states: &[u32], 
 {
     let n = states.len();
     if n == 0 {
-        text::complain(b"why", b"the batch has no programs");
+        output::complain(b"why", b"the batch has no programs");
     }
     for k in 0..n {
         print_program(image, table, area, states, details, k);

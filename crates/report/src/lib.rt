@@ -104,7 +104,7 @@ fn run_in(
 {
     let refused = sheetbendle::open(image, table, area);
     if refused.number != 0 {
-        text::print_refused(refused);
+        output::print_refused(refused);
         return;
     }
     run_opened(page, image, table, area, states, details);
@@ -187,7 +187,7 @@ fn run_table(page: Page, input: &[u8], cells: usize, room: &mut [u32])
 fn run_input(page: Page, input: &[u8]) {
     let cells = input::cells_of(input);
     if cells == 0 {
-        text::print_refused(sheetbendle::Refusal::TABLE_SIZE);
+        output::print_refused(sheetbendle::Refusal::TABLE_SIZE);
         return;
     }
     let mut room = table_room();

@@ -1,10 +1,10 @@
 // The page of the program `batch` (document 01, "Bench sheet"): what came of each program of a settled batch, the listed order and the table.
 ghost use mathlib.Core.Path.{_≡_};
 ghost use lib.ListN.{length};
-use text::print;
-use text::print_number;
-use text::print_refused;
-use text::print_with;
+use output::print;
+use output::print_number;
+use output::print_refused;
+use output::print_with;
 
 // A state's word in the work area's list.
 fn print_state(state: u32) {

@@ -1,7 +1,7 @@
 // What is said of a program that has ended (document 02, ask 3): a line that a script can read, and behind it why, in words.
-use text::print;
-use text::print_number;
-use text::print_with;
+use output::print;
+use output::print_number;
+use output::print_with;
 
 // A cause, as a script reads it.
 fn print_cause(cause: causes::Cause) {

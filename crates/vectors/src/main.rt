@@ -34,12 +34,12 @@ fn room() -> [u8; ROOM]
 
 // The line above an input's page.
 fn print_heading(name: &[u8], why: bool, number: u64) {
-    text::print(name);
+    output::print(name);
     if why {
-        text::print(b" why");
+        output::print(b" why");
     }
-    text::print_with(b" ", number);
-    text::print(b"\n");
+    output::print_with(b" ", number);
+    output::print(b"\n");
 }
 
 // Reads an input that fills what is lent, and runs it for the page of `batch`, or of `why`.
