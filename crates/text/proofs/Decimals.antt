@@ -8,7 +8,7 @@ use lib.Dec.{eqb, ltb, leb}
 use lib.ListN.{length, length-append}
 use borrow.Author.Tests.{leb-true, ltb-true, ltb-false, le-leb, lt-ltb, le-ltb, eqb-false, ne-eqb}
 use Rattle.base.proofs.Bools.{clash, and-both, both-and, nots, no-not}
-use Rattle.text.specs.Decimal.{digit, behind, digitsOf, decimal, isDigit, allDigits, isNumber, valueFrom, value}
+use Rattle.text.specs.Decimal.{digit, behind, digitsOf, decimal, isDigit, allDigits, leads, isNumber, valueFrom, value}
 
 -- ---- one digit, or those of n / 10 and one more
 
@@ -38,13 +38,14 @@ by-digits P small large n = go (suc n) n (omega arith)
     by : (k n : ℕ) → n < suc k → ((m : ℕ) → m < k → P m) → (b : Bool) → ltb n 10 ≡ b → P n
     by k n h rest true e = small n (ltb-true n 10 e)
     by k n h rest false e = let l = ltb-false n 10 e in large n (omega (arith, l)) (rest (n / 10) (omega (arith, l)))
+
     go : (k n : ℕ) → n < k → P n
     go zero n h = absurd (omega arith)
     go (suc k) n h = by k n h (go k) (ltb n 10) refl
 
 -- ---- digits
 
-digit-is : (b : ℕ) → isDigit b ≡ true → (digit 0 ≤ b) × (b ≤ digit 9)
+pub digit-is : (b : ℕ) → isDigit b ≡ true → (digit 0 ≤ b) × (b ≤ digit 9)
 unfolding isDigit
 digit-is b h = let p = and-both (leb (digit 0) b) (leb b (digit 9)) h in (leb-true _ _ (p .0), leb-true _ _ (p .1))
 
@@ -85,17 +86,17 @@ decimal-leads =
     (λ n h p. record { head = digit n; tail = []; is = decimal-small n h; not-zero = λ e. omega arith })
     (λ n h r p. rw (decimal-large n h) (leads-append (decimal (n / 10)) (digit (n % 10) ∷ []) (r (omega arith))))
 
-leads-number : (w : List ℕ) → Leads w → allDigits w ≡ true → isNumber w ≡ true
-unfolding isNumber allDigits
-leads-number [] l h = absurd (none (l .is))
+leads-well : (w : List ℕ) → Leads w → leads w ≡ true
+unfolding leads
+leads-well [] l = absurd (none (l .is))
   where
     none : {x : ℕ} {xs : List ℕ} → _≡_ {A = List ℕ} [] (x ∷ xs) → ⊥
     none e = zero-not-suc (ap length e)
       where
         zero-not-suc : {k : ℕ} → 0 ≡ suc k → ⊥
         zero-not-suc e = omega arith
-leads-number (b ∷ []) l h = and-both (isDigit b) true h .0
-leads-number (b ∷ c ∷ bs) l h = both-and (no-not (ne-eqb b (digit 0) (λ e. l .not-zero (sym (heads (l .is)) ∙ e)))) h
+leads-well (b ∷ []) l = refl
+leads-well (b ∷ c ∷ bs) l = no-not (ne-eqb b (digit 0) (λ e. l .not-zero (sym (heads (l .is)) ∙ e)))
   where
     heads : {x y : ℕ} {xs ys : List ℕ} → _≡_ {A = List ℕ} (x ∷ xs) (y ∷ ys) → x ≡ y
     heads e = ap first-of e
@@ -105,11 +106,11 @@ leads-number (b ∷ c ∷ bs) l h = both-and (no-not (ne-eqb b (digit 0) (λ e. 
         first-of (x ∷ xs) = x
 
 pub decimal-number : (n : ℕ) → isNumber (decimal n) ≡ true
-unfolding isNumber isDigit
+unfolding isNumber leads allDigits isDigit
 decimal-number n = go n (ltb 0 n) refl
   where
     go : (n : ℕ) (b : Bool) → ltb 0 n ≡ b → isNumber (decimal n) ≡ true
-    go n true e = leads-number (decimal n) (decimal-leads n (ltb-true 0 n e)) (decimal-digits n)
+    go n true e = both-and (decimal-digits n) (leads-well (decimal n) (decimal-leads n (ltb-true 0 n e)))
     go n false e = let z : n ≡ 0 = omega (arith, ltb-false 0 n e) in rw (z, decimal-small 0 (omega arith)) refl
 
 -- ---- it is read back
@@ -147,21 +148,29 @@ decimal-from v (b ∷ bs) p h =
     decimal-from (10 * v + (b - digit 0)) bs (omega arith) (q .1)
     ∙ rw (decimal-next v (b - digit 0) p (omega (arith, r .0, r .1)), e) (append-assoc (decimal v) (b ∷ []) bs)
 
-pub one-way : (w : List ℕ) → isNumber w ≡ true → decimal (value w) ≡ w
-unfolding isNumber valueFrom allDigits
-one-way [] h = clash h refl
-one-way (b ∷ []) h =
+from-first : (b : ℕ) (bs : List ℕ) → (b ≡ digit 0 → ⊥) → allDigits (b ∷ bs) ≡ true → decimal (value (b ∷ bs)) ≡ b ∷ bs
+unfolding valueFrom allDigits
+from-first b bs z h =
+    let q = and-both (isDigit b) (allDigits bs) h in
+    let r = digit-is b (q .0) in
+    let e : digit (10 * 0 + (b - digit 0)) ≡ b = omega (arith, r .0, r .1) in
+    decimal-from (10 * 0 + (b - digit 0)) bs (omega (arith, r .0, r .1, z)) (q .1)
+    ∙ rw (decimal-small (10 * 0 + (b - digit 0)) (omega (arith, r .0, r .1)), e)
+
+from-digit : (b : ℕ) → isDigit b ≡ true → decimal (value (b ∷ [])) ≡ b ∷ []
+unfolding valueFrom
+from-digit b h =
     let r = digit-is b h in
     let e : digit (10 * 0 + (b - digit 0)) ≡ b = omega (arith, r .0, r .1) in
     rw (decimal-small (10 * 0 + (b - digit 0)) (omega (arith, r .0, r .1)), e)
+
+pub one-way : (w : List ℕ) → isNumber w ≡ true → decimal (value w) ≡ w
+unfolding isNumber leads allDigits
+one-way [] h = clash h refl
+one-way (b ∷ []) h = from-digit b (and-both (isDigit b) true (and-both (allDigits (b ∷ [])) true h .0) .0)
 one-way (b ∷ c ∷ bs) h =
-    let p = and-both (not (eqb b (digit 0))) (allDigits (b ∷ c ∷ bs)) h in
-    let q = and-both (isDigit b) (allDigits (c ∷ bs)) (p .1) in
-    let r = digit-is b (q .0) in
-    let z = eqb-false b (digit 0) (nots (eqb b (digit 0)) (p .0)) in
-    let e : digit (10 * 0 + (b - digit 0)) ≡ b = omega (arith, r .0, r .1) in
-    decimal-from (10 * 0 + (b - digit 0)) (c ∷ bs) (omega (arith, r .0, r .1, z)) (q .1)
-    ∙ rw (decimal-small (10 * 0 + (b - digit 0)) (omega (arith, r .0, r .1)), e)
+    let p = and-both (allDigits (b ∷ c ∷ bs)) (not (eqb b (digit 0))) h in
+    from-first b (c ∷ bs) (eqb-false b (digit 0) (nots (eqb b (digit 0)) (p .1))) (p .0)
 
 -- ---- how long it is
 

@@ -35,6 +35,7 @@ module _ (b j : ℕ) (ns : List ℕ) where
       other : (xs : List ℕ) → eqb b hash ≡ false → (shown b xs ≡ b ∷ []) × (left b xs ≡ xs)
       other [] e = (refl, refl)
       other (n ∷ xs) e = (rw e, rw e)
+
       by : (eqb b hash ≡ true) ⊎ (eqb b hash ≡ false) → (shown b (drop j ns) ≡ b ∷ []) × (left b (drop j ns) ≡ drop j ns)
       by (inl e) = let f : drop j ns ≡ [] = drop-of-length-le ns (ltb-false j (length ns) (rw e at h)) in (rw f, rw f)
       by (inr e) = other (drop j ns) e

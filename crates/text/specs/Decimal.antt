@@ -1,5 +1,5 @@
 -- A number in decimal: how it is written, and which words are one. Document 02, ask 1: "in decimal .. no leading zeros". Assumes nothing.
-use Prim.Native.Nat.{ℕ, zero, suc, _+_, _-_, _*_, _/_, _%_}
+use Prim.Native.Nat.{ℕ, zero, suc, _+_, _-_, _*_, _/_, _%_, min}
 use mathlib.Core.Bool.{Bool, true, false, not, cond, _&&_}
 use mathlib.Core.List.{List, [], _∷_, _++_}
 use lib.Dec.{eqb, ltb, leb}
@@ -35,11 +35,15 @@ unfoldable pub allDigits : List ℕ → Bool
 allDigits [] = true
 allDigits (b ∷ bs) = isDigit b && allDigits bs
 
--- a word is a number: one digit, or several of which the first is not 0
+-- "no leading zeros": one digit, or several of which the first is not 0
+unfoldable pub leads : List ℕ → Bool
+leads [] = false
+leads (b ∷ []) = true
+leads (b ∷ c ∷ bs) = not (eqb b (digit 0))
+
+-- a word is a number
 unfoldable pub isNumber : List ℕ → Bool
-isNumber [] = false
-isNumber (b ∷ []) = isDigit b
-isNumber (b ∷ c ∷ bs) = not (eqb b (digit 0)) && allDigits (b ∷ c ∷ bs)
+isNumber word = allDigits word && leads word
 
 -- which one: behind the number v a digit gives 10 v + digit
 unfoldable pub valueFrom : ℕ → List ℕ → ℕ
@@ -52,3 +56,10 @@ value = valueFrom 0
 -- a word as a number up to the largest that is meant
 unfoldable pub numeral : (largest : ℕ) → List ℕ → Numeral
 numeral largest word = cond (isNumber word) (cond (leb (value word) largest) (Number (value word)) TooLarge) NoNumber
+
+-- 2^32, which is more than any number that is meant: reading goes no further, however many digits there are
+abbrev pub over : ℕ
+over = 4294967296
+
+abbrev pub capped : ℕ → ℕ
+capped v = min v over

@@ -1,18 +1,18 @@
 // Text in a buffer. Each function that writes puts its bytes at a place, leaves everything else as it was and returns the place after them, so that the
 // next one goes on from there.
 ghost use mathlib.Core.Path.{_≡_};
-ghost use mathlib.Core.Bool.{_&&_};
+ghost use mathlib.Core.Bool.{true, _&&_};
 ghost use lib.Dec.{eqb, ltb};
 ghost use mathlib.Core.List.{[], _∷_};
-ghost use Prim.Native.Nat.{_+_, _<_, _≤_};
+ghost use Prim.Native.Nat.{_+_, _-_, _*_, _<_, _≤_};
 ghost use lib.ListN.{length, drop};
-ghost use Rattle.text.specs.Decimal.{decimal, numeral};
+ghost use Rattle.text.specs.Decimal.{digit, decimal, isDigit, allDigits, leads, value, numeral, over, capped};
 ghost use Rattle.text.specs.Filled.{hash, shown, filled, Shown};
 ghost use Rattle.text.specs.Writing.{Wrote, Room};
 
 // A word as a number up to the largest that is meant.
 pub enum Numeral {
-    Number(u64),
+    Number(u32),
     TooLarge,
     NoNumber,
 }
@@ -91,4 +91,78 @@ pub fn put_filled(out: &mut [u8], at: usize, text: &[u8], numbers: &[u32]) -> us
         next = put_shown(out, next, text[k], numbers);
     }
     next.to
+}
+
+// Whether every byte of a word is a digit.
+fn all_digits(word: &[u8]) -> bool
+    ensures { λ r. ⌜ r ≡ allDigits (now (word .entry)) ⌝ }
+{
+    let n = word.len();
+    for k in 0..n {
+        if !is_digit(word[k]) {
+            return false;
+        }
+    }
+    true
+}
+
+fn is_digit(byte: u8) -> bool
+    ensures { λ r. ⌜ r ≡ isDigit byte ⌝ }
+{
+    if byte < b'0' {
+        return false;
+    }
+    byte <= b'9'
+}
+
+// Whether it is one byte, or several of which the first is not the digit 0.
+fn leads(word: &[u8]) -> bool
+    ensures { λ r. ⌜ r ≡ leads (now (word .entry)) ⌝ }
+{
+    if word.len() < 2 {
+        return word.len() == 1;
+    }
+    word[0] != b'0'
+}
+
+// 2^32: more than any number of 32 bits.
+const OVER: u64 = 4294967296;
+
+// A number with a digit more behind it, as far as 2^32.
+fn with_digit(v: u64, byte: u8) -> u64
+    requires { ⌜ (v ≤ over) × (isDigit byte ≡ true) ⌝ }
+    ensures { λ r. ⌜ r ≡ capped (10 * v + (byte - digit 0)) ⌝ }
+{
+    let next = 10 * v + (byte - b'0') as u64;
+    if next < OVER { next } else { OVER }
+}
+
+// The number that the digits of a word are, as far as 2^32.
+fn value_of(word: &[u8]) -> u64
+    requires { ⌜ allDigits (now word) ≡ true ⌝ }
+    ensures { λ r. ⌜ r ≡ capped (value (now (word .entry))) ⌝ }
+{
+    let mut v = 0;
+    let n = word.len();
+    for k in 0..n {
+        v = with_digit(v, word[k]);
+    }
+    v
+}
+
+// Reads a word as a number up to the largest that is meant.
+pub fn number_of(word: &[u8], largest: u32) -> Numeral
+    ensures { λ r. ⌜ r ≡ numeral largest (now (word .entry)) ⌝ }
+{
+    if !all_digits(word) {
+        return Numeral::NoNumber;
+    }
+    if !leads(word) {
+        return Numeral::NoNumber;
+    }
+    let v = value_of(word);
+    if (largest as u64) < v {
+        return Numeral::TooLarge;
+    }
+    Numeral::Number(v as u32)
 }
