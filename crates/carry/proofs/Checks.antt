@@ -14,8 +14,8 @@ use Rattle.image.specs.Image.{countOf, refusalOf, freshRefusalOf}
 use Rattle.image.proofs.Refusing.{none-fails, none-after, refused-as, done-as}
 use Rattle.area.specs.Checks.{callRefusal, endedRefusal, Checked}
 use Rattle.area.proofs.Checks.{checked}
-use Rattle.writer.specs.Writing.{Wrote}
-use Rattle.writer.proofs.Writing.{pasted-front}
+use Rattle.text.specs.Writing.{Wrote}
+use Rattle.text.proofs.Writing.{pasted-front}
 use Rattle.carry.specs.declared.Next.the-variants.{Refused, Length}
 use Rattle.carry.specs.Next.{carriedCount, nextImage, lentRefusal, sizeRefusal, nextRefusal, nextAnswer, nextOut, NextSays}
 

@@ -10,7 +10,7 @@ use Rattle.base.proofs.Counts.{count-le}
 use Rattle.image.specs.declared.Refusal.{Refusal}
 use Rattle.image.specs.Image.{countOf}
 use Rattle.image.proofs.Refusing.{first-passes, number-of}
-use Rattle.writer.specs.Writing.{Wrote}
+use Rattle.text.specs.Writing.{Wrote}
 use Rattle.writer.proofs.Programs.{good-source}
 use Rattle.carry.specs.declared.Next.the-variants.{Length}
 use Rattle.slot.specs.declared.Group.the-variants.{Carried}

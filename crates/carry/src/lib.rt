@@ -2,7 +2,7 @@
 ghost use mathlib.Core.Path.{_≡_};
 ghost use Prim.Native.Nat.{_≤_};
 ghost use lib.ListN.{length};
-ghost use Rattle.writer.specs.Writing.{Wrote};
+ghost use Rattle.text.specs.Writing.{Wrote};
 ghost use Rattle.carry.specs.Next.{lentRefusal, sizeRefusal, NextSays};
 ghost use Rattle.carry.specs.Sources.{Sources, imageFrom};
 

@@ -47,3 +47,17 @@ fillings = refl
 one-behind-the-other : texts (λ k. filled (ascii "#;") (k ∷ [])) 3 ≡ ascii "0;1;2;"
 unfolding opened
 one-behind-the-other = refl
+
+-- what is written stands at its place, the bytes before and after it as they were: at the front, inside, up to the end, and no byte at all
+piece-at : pasted (1 ∷ 2 ∷ 3 ∷ 4 ∷ 5 ∷ []) 0 (8 ∷ 9 ∷ [])
+    ∷ pasted (1 ∷ 2 ∷ 3 ∷ 4 ∷ 5 ∷ []) 1 (8 ∷ 9 ∷ [])
+    ∷ pasted (1 ∷ 2 ∷ 3 ∷ 4 ∷ 5 ∷ []) 3 (8 ∷ 9 ∷ [])
+    ∷ pasted (1 ∷ 2 ∷ 3 ∷ 4 ∷ 5 ∷ []) 2 []
+    ∷ []
+    ≡ (8 ∷ 9 ∷ 3 ∷ 4 ∷ 5 ∷ [])
+    ∷ (1 ∷ 8 ∷ 9 ∷ 4 ∷ 5 ∷ [])
+    ∷ (1 ∷ 2 ∷ 3 ∷ 8 ∷ 9 ∷ [])
+    ∷ (1 ∷ 2 ∷ 3 ∷ 4 ∷ 5 ∷ [])
+    ∷ []
+unfolding opened
+piece-at = refl

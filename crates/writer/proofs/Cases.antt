@@ -9,7 +9,7 @@ use Rattle.image.specs.Image.{refusalOf}
 use Rattle.image.specs.Assembler.{program, fields, image, set, store}
 use Rattle.writer.specs.Joined.{number, joined, ends, imageOf}
 use Rattle.writer.specs.Picked.{picked, allOf}
-use Rattle.writer.specs.Writing.{pasted, header}
+use Rattle.writer.specs.Writing.{header}
 use Rattle.writer.specs.Opened.{opened}
 
 -- "All numbers are 16 bits, low byte first."
@@ -54,20 +54,6 @@ pieces : (header 3 2 ≡ 3 ∷ 0 ∷ 2 ∷ 0 ∷ 12 ∷ 0 ∷ [])
     × (joined (one ∷ two ∷ three ∷ []) ≡ one ++ three)
 unfolding opened header
 pieces = (refl, refl, refl)
-
--- each at its place, the bytes before and after it as they were: at the front, inside, up to the end, and no byte at all
-piece-at : pasted (1 ∷ 2 ∷ 3 ∷ 4 ∷ 5 ∷ []) 0 (8 ∷ 9 ∷ [])
-    ∷ pasted (1 ∷ 2 ∷ 3 ∷ 4 ∷ 5 ∷ []) 1 (8 ∷ 9 ∷ [])
-    ∷ pasted (1 ∷ 2 ∷ 3 ∷ 4 ∷ 5 ∷ []) 3 (8 ∷ 9 ∷ [])
-    ∷ pasted (1 ∷ 2 ∷ 3 ∷ 4 ∷ 5 ∷ []) 2 []
-    ∷ []
-    ≡ (8 ∷ 9 ∷ 3 ∷ 4 ∷ 5 ∷ [])
-    ∷ (1 ∷ 8 ∷ 9 ∷ 4 ∷ 5 ∷ [])
-    ∷ (1 ∷ 2 ∷ 3 ∷ 8 ∷ 9 ∷ [])
-    ∷ (1 ∷ 2 ∷ 3 ∷ 4 ∷ 5 ∷ [])
-    ∷ []
-unfolding pasted
-piece-at = refl
 
 -- ---- which programs are taken, "in number order"
 

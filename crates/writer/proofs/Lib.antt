@@ -3,4 +3,3 @@ pub mod Good
 pub mod Programs
 pub mod Unique
 pub mod Whole
-pub mod Writing

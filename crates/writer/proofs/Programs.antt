@@ -12,14 +12,16 @@ use Rattle.base.specs.Words.{count}
 use Rattle.base.specs.Masks.{hasBit}
 use Rattle.base.proofs.Counts.{count-below}
 use Rattle.base.proofs.Numbers.{below}
+use Rattle.text.specs.Writing.{Wrote, Room}
+use Rattle.text.proofs.Writing as writing
+use Rattle.text.proofs.Writing.{wrote-none, wrote-more, room-first, room-then}
 use Rattle.image.specs.Limits.{maxProgramBytes, headBytes}
 use Rattle.image.specs.Image.{countOf, partOf, refusalOf}
 use Rattle.image.proofs.Laws.{lies, lies-short, accepted, few-programs}
 use Rattle.writer.specs.declared.Place.{Place}
 use Rattle.writer.specs.Joined.{number, joined, ends, offsets, imageOf}
 use Rattle.writer.specs.Picked.{pick, picked}
-use Rattle.writer.specs.Writing.{Wrote, Ended, EndRoom, BodyRoom, Source}
-use Rattle.writer.proofs.Writing.{wrote-none, wrote-more}
+use Rattle.writer.specs.Writing.{Ended, EndRoom, Source}
 
 -- ---- one after another
 
@@ -90,16 +92,16 @@ module _ (ps qs : List (List ℕ)) {d : List ℕ} {place : Place} (room : EndRoo
       end-is = rw (length-joined ps qs) (omega (arith, h .end-is, k .end-is));
     }
 
-module _ (ps qs : List (List ℕ)) {d : List ℕ} {at : ℕ} (room : BodyRoom d at (ps ++ qs)) where
-  pub first-fits : BodyRoom d at ps
-  first-fits = record { fits = omega (arith, room .fits, length-joined ps qs) }
+module _ (ps qs : List (List ℕ)) {d : List ℕ} {at : ℕ} (room : Room d at (joined (ps ++ qs))) where
+  pub first-fits : Room d at (joined ps)
+  first-fits = room-first (joined ps) (joined qs) (rw (joined-append ps qs) at room)
 
   module _ {b : List ℕ} {r : ℕ} (h : Wrote d at (joined ps) b r) where
-    pub second-fits : BodyRoom b r qs
-    second-fits = record { fits = omega (arith, room .fits, length-joined ps qs, h .next, h .long) }
+    pub second-fits : Room b r (joined qs)
+    second-fits = room-then (joined ps) (joined qs) (rw (joined-append ps qs) at room) h
 
     pub wrote-both : {c : List ℕ} {s : ℕ} → Wrote b r (joined qs) c s → Wrote d at (joined (ps ++ qs)) c s
-    wrote-both k = rw (joined-append ps qs) (wrote-more h k (omega (arith, room .fits, length-joined ps qs)))
+    wrote-both k = rw (joined-append ps qs) (writing.wrote-both (joined ps) (joined qs) (rw (joined-append ps qs) at room) h k)
 
 -- ---- the programs that pass
 
@@ -174,11 +176,11 @@ module _ (test : ℕ → Bool) (image : List ℕ) where
       end-turn k = rw (picked-more i) (ended-both (picked test image i) (pick test image i) next-room h k)
 
     module _ {d : List ℕ} {at : ℕ} {out : List ℕ} {to : ℕ} (h : Wrote d at (joined (picked test image i)) out to)
-        (room : BodyRoom d at (picked test image n)) where
-      next-fits : BodyRoom d at next
+        (room : Room d at (joined (picked test image n))) where
+      next-fits : Room d at (joined next)
       next-fits = first-fits next (rest .0) (rw (rest .1) at room)
 
-      pub body-room : BodyRoom out to (pick test image i)
+      pub body-room : Room out to (joined (pick test image i))
       body-room = second-fits (picked test image i) (pick test image i) next-fits h
 
       pub body-turn : {out′ : List ℕ} {to′ : ℕ} → Wrote out to (joined (pick test image i)) out′ to′ → Wrote d at (joined (picked test image (i + 1))) out′ to′

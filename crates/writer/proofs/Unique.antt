@@ -8,8 +8,6 @@ use Rattle.writer.proofs.put_pair.Kinds as put-pair-kinds
 use Rattle.writer.proofs.put_pair.Reads as put-pair
 use Rattle.writer.proofs.put_number.Kinds as put-number-kinds
 use Rattle.writer.proofs.put_number.Reads as put-number
-use Rattle.writer.proofs.copy_part.Kinds as copy-part-kinds
-use Rattle.writer.proofs.copy_part.Reads as copy-part
 use Rattle.writer.proofs.put_header.Kinds as put-header-kinds
 use Rattle.writer.proofs.put_header.Reads as put-header
 use Rattle.writer.proofs.taken_bytes.Kinds as taken-bytes-kinds
@@ -25,9 +23,6 @@ put-pair-unique κs a x y s t p q = cc
 
 pub put-number-unique : Unique {A = ℕ × List ℕ} 1 put-number-kinds.ps put-number-kinds.r (λ κs x s. (x, now (s .0))) put-number.Post
 put-number-unique κs a x y s t p q = cc
-
-pub copy-part-unique : Unique {A = ℕ × List ℕ} 2 copy-part-kinds.ps copy-part-kinds.r (λ κs x s. (x, now (s .0))) copy-part.Post
-copy-part-unique κs a x y s t p q = cc
 
 pub put-header-unique : Unique {A = ℕ × List ℕ} 1 put-header-kinds.ps put-header-kinds.r (λ κs x s. (x, now (s .0))) put-header.Post
 put-header-unique κs a x y s t p q = cc

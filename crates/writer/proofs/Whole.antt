@@ -4,11 +4,12 @@ use mathlib.Core.List.{List, _++_, append-assoc}
 use Prim.Native.Nat.{ℕ, _+_, _≤_, _<_}
 use native.Mathlib.Omega.{arith}
 use lib.ListN.{length, length-append}
+use Rattle.text.specs.Writing.{Wrote, Room}
+use Rattle.text.proofs.Writing.{wrote-more}
 use Rattle.image.specs.Limits.{headBytes, minBytes}
 use Rattle.writer.specs.declared.Place.{Place}
 use Rattle.writer.specs.Joined.{joined, ends, offsets, imageOf}
-use Rattle.writer.specs.Writing.{Wrote, header, Ended, EndRoom, BodyRoom}
-use Rattle.writer.proofs.Writing.{wrote-more}
+use Rattle.writer.specs.Writing.{header, Ended, EndRoom}
 use Rattle.writer.proofs.Programs.{length-ends, length-number, length-image}
 
 -- ---- the image of xs
@@ -32,7 +33,7 @@ module _ {rule : ℕ} {xs : List (List ℕ)} {out o : List ℕ} {place : Place} 
   }
 
   module _ {o′ : List ℕ} {r : Place} (e : Ended o place xs o′ r) where
-    pub bytes-room : BodyRoom o′ (r .to) xs
+    pub bytes-room : Room o′ (r .to) (joined xs)
     bytes-room = record {
       fits = omega (arith, e .wrote .next, e .wrote .long, length-ends (place .end) xs, h .wrote .next, h .wrote .long, header-length (length xs) rule, h .fits, length-image rule xs);
     }

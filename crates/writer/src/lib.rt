@@ -8,7 +8,8 @@ ghost use Rattle.base.specs.Masks.{hasBit};
 ghost use Rattle.image.specs.Limits.{maxPrograms, maxProgramBytes, minBytes};
 ghost use Rattle.writer.specs.Joined.{number, joined};
 ghost use Rattle.writer.specs.Picked.{pick, picked};
-ghost use Rattle.writer.specs.Writing.{Wrote, header, Ended, EndRoom, BodyRoom, Source};
+ghost use Rattle.text.specs.Writing.{Wrote, Room};
+ghost use Rattle.writer.specs.Writing.{header, Ended, EndRoom, Source};
 
 // Where the next offset goes, and where the last program placed ends.
 pub struct Place {
@@ -32,18 +33,6 @@ pub fn put_number(out: &mut [u8], at: usize, v: usize) -> usize
     ensures { λ r. ⌜ Wrote (now (out .entry)) at (number v) (now (out .exit)) r ⌝ }
 {
     put_pair(out, at, (v % 256) as u8, (v / 256 % 256) as u8)
-}
-
-// A program's bytes.
-pub fn copy_part(out: &mut [u8], at: usize, part: &[u8]) -> usize
-    requires { ⌜ at + length (now part) ≤ length (now out) ⌝ }
-    ensures { λ r. ⌜ Wrote (now (out .entry)) at (now (part .entry)) (now (out .exit)) r ⌝ }
-{
-    let n = part.len();
-    for k in 0..n {
-        out[at + k] = part[k];
-    }
-    at + n
 }
 
 // Count, rule and zero byte, and the first offset.
@@ -109,13 +98,13 @@ pub fn put_ends(out: &mut [u8], place: Place, image: &[u8], n: usize, mask: u64)
 
 // The bytes of the programs that the mask has, one program after another.
 pub fn put_bodies(out: &mut [u8], at: usize, image: &[u8], n: usize, mask: u64) -> usize
-    requires { ⌜ Source (now image) n mask × BodyRoom (now out) at (picked (hasBit mask) (now image) n) ⌝ }
+    requires { ⌜ Source (now image) n mask × Room (now out) at (joined (picked (hasBit mask) (now image) n)) ⌝ }
     ensures { λ r. ⌜ Wrote (now (out .entry)) at (joined (picked (hasBit mask) (now (image .entry)) n)) (now (out .exit)) r ⌝ }
 {
     let mut to = at;
     for i in 0..n {
         let part = taken_part(image, n, mask, i);
-        to = copy_part(out, to, part);
+        to = text::put_bytes(out, to, part);
     }
     to
 }

@@ -7,8 +7,8 @@ use borrow.Author.Needs.{needs}
 use Rattle.base.specs.Masks.{hasBit}
 use Rattle.writer.specs.Joined.{joined}
 use Rattle.writer.specs.Picked.{picked}
-use Rattle.writer.specs.Writing.{Wrote}
-use Rattle.writer.proofs.Writing.{wrote-none}
+use Rattle.text.specs.Writing.{Wrote}
+use Rattle.text.proofs.Writing.{wrote-none}
 use Rattle.writer.proofs.Programs.{joined-none, picked-none, body-room, body-turn}
 use Rattle.writer.proofs.put_bodies.Statement.{statement}
 use Rattle.writer.proofs.put_bodies.Tie as tie
@@ -28,8 +28,8 @@ loop-holds c = let a = c .before .before .args in (search needs, rw (picked-none
 taken-part-requires : tie.Need-taken-part-requires Inv-loop μ-loop
 taken-part-requires c κs = (start-of (c .before) .pre .0, omega arith)
 
-copy-part-requires : tie.Need-copy-part-requires Inv-loop μ-loop
-copy-part-requires c κs =
+put-bytes-requires : tie.Need-put-bytes-requires Inv-loop μ-loop
+put-bytes-requires c κs =
     let h = c .before .before .before in
     let s = start-of h in
     let room = body-room (hasBit (s .args .mask)) (s .args .image .now) (omega arith) (h .loop .inv .1) (s .pre .1) in
@@ -37,7 +37,7 @@ copy-part-requires c κs =
 
 loop-again : tie.Need-loop-again Inv-loop μ-loop
 loop-again c =
-    let u = c .before .before .copy-part in
+    let u = c .before .before .put-bytes in
     let p = c .before .before .before .before in
     let h = p .before .before in
     let s = start-of h in
@@ -57,7 +57,7 @@ put-bodies-spec =
     μ-loop
     loop-holds
     taken-part-requires
-    copy-part-requires
+    put-bytes-requires
     (λ c. search needs)
     (λ c. search needs)
     loop-again

@@ -3,7 +3,7 @@ use native.Mathlib.Omega.{arith}
 use lib.ListN.{length-append}
 use borrow.Author.Needs.{needs}
 use Rattle.writer.specs.Writing.{header}
-use Rattle.writer.proofs.Writing.{wrote-more}
+use Rattle.text.proofs.Writing.{wrote-more}
 use Rattle.writer.proofs.Programs.{length-number}
 use Rattle.writer.proofs.put_header.Statement.{statement}
 use Rattle.writer.proofs.put_header.Tie as tie
