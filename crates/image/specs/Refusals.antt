@@ -55,6 +55,10 @@ notCarried = refusing 13
 abbrev pub reason : Refusal
 reason = refusing 15
 
+-- document 02, ask 1
+abbrev pub line : Refusal
+line = refusing 51
+
 -- "21–24: as 1–4, for the fresh image"
 abbrev pub ofFresh : Refusal → Refusal
 ofFresh r = refusing (20 + r .number)

@@ -4,6 +4,7 @@ ghost use mathlib.Core.Bool.{true};
 ghost use Prim.Native.Nat.{_+_, _*_, _<_, _≤_};
 ghost use lib.ListN.{length};
 ghost use Rattle.image.specs.Limits.{headBytes};
+ghost use Rattle.image.specs.Instruction.{programGood};
 ghost use Rattle.image.specs.Image.{byteAt, countOf, ruleByte, headerOf, secondRule, offsetOf, partOf, Lies, Part, startOf};
 ghost use Rattle.image.specs.Image.{sizeGood, headerGood, extentGood, extentsGood, offsetsGood, codeGood, refusalOf, freshRefusalOf};
 ghost use Rattle.image.specs.Image.{ProgramSays, ProgramRefusalSays};
@@ -95,6 +96,8 @@ impl Refusal {
     pub const NOT_CARRIED: Refusal = Refusal { number: 13 };
 
     pub const REASON: Refusal = Refusal { number: 15 };
+
+    pub const LINE: Refusal = Refusal { number: 51 };
 
     // What a refusal of 1 to 4 adds to its number where the fresh image earns it.
     pub const FRESH: u32 = 20;
@@ -227,6 +230,19 @@ fn code_good(bytes: &[u8], n: usize) -> bool
         }
     }
     good
+}
+
+// Whether every instruction of a program is good.
+pub fn program_good(program: &[u8]) -> bool
+    ensures { λ r. ⌜ r ≡ programGood (now (program .entry)) ⌝ }
+{
+    let m = program.len() / Image::INSTRUCTION_BYTES;
+    for i in 0..m {
+        if !instruction::place_good(program, i) {
+            return false;
+        }
+    }
+    true
 }
 
 // Check 1.

@@ -1,0 +1,2 @@
+pub mod FromImage
+pub mod Opened

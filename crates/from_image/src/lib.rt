@@ -1,0 +1,1 @@
+// The sheet of an image: document 02, ask 1.

@@ -1,0 +1,2 @@
+pub mod FromSheet
+pub mod Opened

@@ -1,0 +1,9 @@
+-- One name that opens every definition of the image of a sheet, for worked cases. Assumes nothing.
+use Rattle.writer.specs.Opened as writer
+use Rattle.sheet.specs.Opened as sheet
+use Rattle.from_sheet.specs.FromSheet.{imageOfSheet, all, fewPrograms, shortPrograms, goodPrograms, programsRefusal, sheetRefusal, imageOfRefusal, refusedBy}
+use Rattle.from_sheet.specs.FromSheet.{imageOfAnswer, imageOfOutput}
+
+unfoldable pub opened : Unit {0}
+unfolding writer.opened sheet.opened imageOfSheet all fewPrograms shortPrograms goodPrograms programsRefusal sheetRefusal imageOfRefusal refusedBy imageOfAnswer imageOfOutput
+opened = tt

@@ -1,0 +1,1 @@
+// The image of a sheet: document 02, ask 1.

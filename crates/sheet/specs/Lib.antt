@@ -1,0 +1,4 @@
+pub mod Split
+pub mod Sheet
+pub mod Answers
+pub mod Opened
