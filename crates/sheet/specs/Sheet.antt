@@ -1,15 +1,17 @@
 -- Document 02, ask 1, "A sheet we can type": ""rule R", then for each program a line "program", then a line per instruction with its name and its three
 -- bytes in decimal, single spaces, no leading zeros, a newline after every line." Assumes nothing.
-use Prim.Native.Nat.{ℕ, zero, suc, _+_}
+use Prim.Native.Nat.{ℕ, zero, suc, _≤_}
+use mathlib.Core.Path.{_≡_}
 use mathlib.Core.Bool.{Bool, true, false, cond, _&&_}
 use mathlib.Core.List.{List, [], _∷_, _++_, map}
 use lib.Dec.{eqb, ltb, leb}
-use lib.ListN.{length, getD}
+use lib.ListN.{length, getD, take}
 use Rattle.base.specs.Words.{least}
 use Rattle.text.specs.Ascii.{ascii}
 use Rattle.text.specs.Decimal.{isNumber, value}
 use Rattle.text.specs.Filled.{filled}
 use Rattle.sheet.specs.declared.Instruction.{Instruction}
+use Rattle.sheet.specs.declared.Name.{Name}
 use Rattle.sheet.specs.declared.Line.{Line}
 use Rattle.sheet.specs.declared.Line.the-variants as line
 use Rattle.sheet.specs.Split.{split, same}
@@ -33,6 +35,11 @@ operations = 9
 
 unfoldable pub nameOf : ℕ → List ℕ
 nameOf op = getD names op []
+
+-- a name as the code holds it: so many of its bytes
+pub record Named (op : ℕ) (n : Name) : Type 0 where
+  pub bytes-are : take (n .length) (n .bytes) ≡ nameOf op
+  pub long : n .length ≤ length (n .bytes)
 
 -- what each line says, without its newline
 unfoldable pub lineText : Line → List ℕ
