@@ -1,6 +1,6 @@
 -- Document 02, ask 1, "A sheet we can type": ""rule R", then for each program a line "program", then a line per instruction with its name and its three
 -- bytes in decimal, single spaces, no leading zeros, a newline after every line." Assumes nothing.
-use Prim.Native.Nat.{ℕ, zero, suc, _≤_}
+use Prim.Native.Nat.{ℕ, zero, suc, _+_, _≤_}
 use mathlib.Core.Path.{_≡_}
 use mathlib.Core.Bool.{Bool, true, false, cond, _&&_}
 use mathlib.Core.List.{List, [], _∷_, _++_, map}
@@ -61,6 +61,10 @@ operationOf word = least (λ op. same word (nameOf op)) operations
 
 unfoldable pub isUpTo : (largest : ℕ) → List ℕ → Bool
 isUpTo largest word = isNumber word && leb (value word) largest
+
+-- such a number, or one more than the largest
+unfoldable pub upTo : (largest : ℕ) → List ℕ → ℕ
+upTo largest word = cond (isUpTo largest word) (value word) (largest + 1)
 
 unfoldable pub programLine : List ℕ → Line
 programLine word = cond (same word (ascii "program")) line.Program line.Other

@@ -28,5 +28,5 @@ same (x ∷ xs) (y ∷ ys) = eqb x y && same xs ys
 pub record Ends (separator : ℕ) (text : List ℕ) (at end : ℕ) : Type 0 where
   pub from : at ≤ end
   pub within : end ≤ length text
-  pub last : end ≡ length text → split separator (drop at text) ≡ drop at text ∷ []
+  pub last : end ≡ length text → split separator (drop at text) ≡ words at (end - at) text ∷ []
   pub more : end < length text → split separator (drop at text) ≡ words at (end - at) text ∷ split separator (drop (end + 1) text)

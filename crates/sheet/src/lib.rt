@@ -4,6 +4,11 @@ ghost use Prim.Native.Nat.{_+_, _<_, _≤_};
 ghost use lib.ListN.{length, take};
 ghost use Rattle.sheet.specs.Sheet.{operations, nameOf, Named};
 
+mod reading;
+
+pub use reading::line_of;
+pub use reading::part_end;
+
 // An instruction: its operation, a number from 0 to 8 that has a name, and its three bytes.
 pub struct Instruction {
     pub op: u8,
