@@ -40,41 +40,15 @@ module _ (b j : ℕ) (ns : List ℕ) where
       by (inl e) = let f : drop j ns ≡ [] = drop-of-length-le ns (ltb-false j (length ns) (rw e at h)) in (rw f, rw f)
       by (inr e) = other (drop j ns) e
 
--- ---- a text that has come to its byte k: what stands there, and what is still to come
+-- ---- a text that has come to its byte k
 
-pub record Half (d : List ℕ) (at : ℕ) (t ns : List ℕ) (k : ℕ) (out : List ℕ) (r : Filling) : Type 0 where
-  pub so-far : List ℕ
-  pub wrote : Wrote d at so-far out (r .to)
-  pub whole : filled t ns ≡ so-far ++ filled (drop k t) (drop (r .used) ns)
+pub filled-end : (t ns : List ℕ) (k : ℕ) → length t ≤ k → filled (drop k t) ns ≡ []
+unfolding filled
+filled-end t ns k h = rw (drop-of-length-le t h)
 
-pub half-none : (d : List ℕ) (at : ℕ) (t ns : List ℕ) → Half d at t ns 0 d (record { to = at; used = 0 })
-half-none d at t ns = record { so-far = []; wrote = wrote-none d at; whole = refl }
-
-module _ {d : List ℕ} {at : ℕ} {t ns : List ℕ} {k : ℕ} {out : List ℕ} {p : Filling} (room : Room d at (filled t ns)) (h : Half d at t ns k out p) where
-  pub half-end : k ≡ length t → Wrote d at (filled t ns) out (p .to)
-  unfolding filled
-  half-end e =
-      let f : drop k t ≡ [] = drop-of-length-le t {i = k} (omega (arith, e)) in
-      let g : filled t ns ≡ h .so-far = h .whole ∙ rw f (append-nil (h .so-far)) in
-      rw g (h .wrote)
-
-  -- byte k
-  next : k < length t → filled t ns ≡ h .so-far ++ (shown (getD t k 0) (drop (p .used) ns) ++ filled (drop (k + 1) t) (left (getD t k 0) (drop (p .used) ns)))
-  unfolding filled
-  next l = h .whole ∙ rw (drop-cons t k 0 l, add-one k)
-
-  pub half-room : k < length t → Room out (p .to) (shown (getD t k 0) (drop (p .used) ns))
-  half-room l = room-first _ _ (room-then (h .so-far) _ (rw (next l) at room) (h .wrote))
-
-  pub half-more : k < length t → {o : List ℕ} {r : Filling} → Shown out p (getD t k 0) ns o r → Half d at t ns (k + 1) o r
-  half-more l s =
-      let x = shown (getD t k 0) (drop (p .used) ns) in
-      let e = next l ∙ sym (append-assoc (h .so-far) x _) in
-      record {
-        so-far = h .so-far ++ x;
-        wrote = wrote-both (h .so-far) x (room-first (h .so-far ++ x) _ (rw e at room)) (h .wrote) (s .wrote);
-        whole = e ∙ rw (s .numbers);
-      }
+pub filled-next : (t ns : List ℕ) (k : ℕ) → k < length t → filled (drop k t) ns ≡ shown (getD t k 0) ns ++ filled (drop (k + 1) t) (left (getD t k 0) ns)
+unfolding filled
+filled-next t ns k h = rw (drop-cons t k 0 h, add-one k)
 
 -- ---- how long a text is with its numbers, which have 32 bits: at most 10 digits for each #
 

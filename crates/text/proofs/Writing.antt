@@ -57,6 +57,34 @@ module _ {out : List ℕ} {at : ℕ} (w x : List ℕ) (r : Room out at (w ++ x))
   pub wrote-both : {b c : List ℕ} {next end : ℕ} → Wrote out at w b next → Wrote b next x c end → Wrote out at (w ++ x) c end
   wrote-both h k = wrote-more h k (omega (arith, r .fits, length-append w x))
 
+-- ---- a text that is written piece by piece: what stands there, and the rest, which is still to come
+
+pub record Partly (d : List ℕ) (at : ℕ) (whole out : List ℕ) (to : ℕ) (rest : List ℕ) : Type 0 where
+  pub so-far : List ℕ
+  pub wrote : Wrote d at so-far out to
+  pub is : whole ≡ so-far ++ rest
+
+pub partly-none : (d : List ℕ) (at : ℕ) (whole : List ℕ) → Partly d at whole d at whole
+partly-none d at whole = record { so-far = []; wrote = wrote-none d at; is = refl }
+
+module _ {d : List ℕ} {at : ℕ} {whole out : List ℕ} {to : ℕ} {rest : List ℕ} (p : Partly d at whole out to rest) where
+  pub partly-end : rest ≡ [] → Wrote d at whole out to
+  partly-end e = let f : whole ≡ p .so-far = p .is ∙ rw e (append-nil (p .so-far)) in rw f (p .wrote)
+
+  -- the next piece is x
+  module _ (room : Room d at whole) (x rest′ : List ℕ) (e : rest ≡ x ++ rest′) where
+    pub partly-room : Room out to x
+    partly-room = room-first x rest′ (room-then (p .so-far) (x ++ rest′) (rw (p .is, e) at room) (p .wrote))
+
+    pub partly-more : {out′ : List ℕ} {to′ : ℕ} → Wrote out to x out′ to′ → Partly d at whole out′ to′ rest′
+    partly-more w =
+        let f : whole ≡ (p .so-far ++ x) ++ rest′ = p .is ∙ rw e (sym (append-assoc (p .so-far) x rest′)) in
+        record { so-far = p .so-far ++ x; wrote = wrote-both (p .so-far) x (room-first (p .so-far ++ x) rest′ (rw f at room)) (p .wrote) w; is = f }
+
+  -- nothing is written of it
+  pub partly-same : {rest′ : List ℕ} → rest ≡ rest′ → Partly d at whole out to rest′
+  partly-same e = record { so-far = p .so-far; wrote = p .wrote; is = p .is ∙ rw e }
+
 -- ---- one byte, two bytes; and a copy, one byte a turn
 
 pub wrote-byte : (d : List ℕ) (at x : ℕ) → Room d at (x ∷ []) → Wrote d at (x ∷ []) (set d at x) (at + 1)
