@@ -1,2 +1,3 @@
 pub mod FromSheet
+pub mod Passes
 pub mod Opened
