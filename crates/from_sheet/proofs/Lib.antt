@@ -1,2 +1,4 @@
 pub mod Passing
+pub mod Pieces
+pub mod ReadPrograms
 pub mod Cases

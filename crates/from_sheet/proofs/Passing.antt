@@ -41,6 +41,7 @@ lines-next sheet at end e = rw (le-leb at (length sheet) (omega (arith, e .from,
     last-or-more : (ltb end (length sheet) ≡ true) ⊎ (ltb end (length sheet) ≡ false) → (end ≡ length sheet) ⊎ (end < length sheet)
     last-or-more (inl f) = inr (ltb-true end (length sheet) f)
     last-or-more (inr f) = inl (omega (arith, e .within, ltb-false end (length sheet) f))
+
     go : (end ≡ length sheet) ⊎ (end < length sheet)
         → map lineOf (split newline (drop at sheet)) ≡ lineAt sheet at end ∷ cond (leb (end + 1) (length sheet)) (map lineOf (split newline (drop (end + 1) sheet))) []
     go (inl f) = rw (e .last f, lt-leb (end + 1) (length sheet) (omega (arith, f)))

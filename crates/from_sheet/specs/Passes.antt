@@ -1,20 +1,23 @@
 -- How a sheet is gone through, line by line: what each pass has still to do. Assumes nothing.
-use Prim.Native.Nat.{ℕ, _+_, _*_, _≤_, _<_, max}
+use Prim.Native.Nat.{ℕ, _+_, _≤_, _<_, max}
 use mathlib.Core.Path.{_≡_}
 use mathlib.Core.Bool.{Bool, true, cond, _&&_}
 use mathlib.Core.List.{List, [], _∷_, _++_, map}
 use lib.Dec.{leb}
 use lib.ListN.{length, take, drop}
-use Rattle.image.specs.Limits.{instructionBytes, maxProgramBytes}
+use Rattle.text.specs.Writing.{Wrote, Room}
+use Rattle.image.specs.Limits.{maxPrograms, maxProgramBytes, maxBytes}
 use Rattle.image.specs.Instruction.{programGood}
-use Rattle.writer.specs.Joined.{number, joined}
+use Rattle.writer.specs.declared.Place.{Place}
+use Rattle.writer.specs.Joined.{number}
 use Rattle.sheet.specs.declared.Line.{Line}
 use Rattle.sheet.specs.declared.Line.the-variants as line
 use Rattle.sheet.specs.Split.{split}
 use Rattle.sheet.specs.Sheet.{newline, lineOf, bytesOf, leading, programs}
 use Rattle.from_sheet.specs.declared.counting.Found.{Found}
 use Rattle.from_sheet.specs.declared.counting.Sizes.{Sizes}
-use Rattle.from_sheet.specs.FromSheet.{shortPrograms, goodPrograms}
+use Rattle.from_sheet.specs.declared.checking.Reading.{Reading}
+use Rattle.from_sheet.specs.FromSheet.{imageOfSheet, shortPrograms, goodPrograms}
 
 -- the lines from a place on, which is one part's beginning, and none behind the last
 unfoldable pub linesFrom : (at : ℕ) → List ℕ → List Line
@@ -48,25 +51,9 @@ pub record Small (s : Sizes) (most : ℕ) : Type 0 where
   pub instructions-few : s .instructions ≤ most
   pub current-few : s .current ≤ most
 
--- ---- checking: the program that is being read has some bytes already
+-- ---- what a line brings
 
-unfoldable pub stillShort : (bytes : List ℕ) → List Line → Bool
-stillShort bytes ls = leb (length (bytes ++ leading ls)) maxProgramBytes && shortPrograms (programs ls)
-
-unfoldable pub stillGood : (bytes : List ℕ) → List Line → Bool
-stillGood bytes ls = programGood (bytes ++ leading ls) && goodPrograms (programs ls)
-
--- ---- writing
-
--- the offsets that are still to come, where the program that is being read ends so far at `end`
-unfoldable pub offsetsFrom : (end : ℕ) → List Line → List ℕ
-offsetsFrom end [] = number end
-offsetsFrom end (line.Rule r ∷ ls) = offsetsFrom end ls
-offsetsFrom end (line.Program ∷ ls) = number end ++ offsetsFrom end ls
-offsetsFrom end (line.Instruction i ∷ ls) = offsetsFrom (end + instructionBytes) ls
-offsetsFrom end (line.Other ∷ ls) = offsetsFrom end ls
-
--- the bytes of the instructions
+-- the bytes of its instruction
 unfoldable pub bodyOf : Line → List ℕ
 bodyOf (line.Rule r) = []
 bodyOf line.Program = []
@@ -76,3 +63,58 @@ bodyOf line.Other = []
 unfoldable pub bodies : List Line → List ℕ
 bodies [] = []
 bodies (l ∷ ls) = bodyOf l ++ bodies ls
+
+-- an offset, where it begins a program: that is where the one before it ends
+unfoldable pub offsetAt : (end : ℕ) → Line → List ℕ
+offsetAt end (line.Rule r) = []
+offsetAt end line.Program = number end
+offsetAt end (line.Instruction i) = []
+offsetAt end line.Other = []
+
+-- the offsets that are still to come; the last one is where the last program ends
+unfoldable pub offsetsFrom : (end : ℕ) → List Line → List ℕ
+offsetsFrom end [] = number end
+offsetsFrom end (l ∷ ls) = offsetAt end l ++ offsetsFrom (end + length (bodyOf l)) ls
+
+-- What writing it leaves, and what it needs: the program that is being read ends so far at `end`.
+pub record Offset (before : List ℕ) (place : Place) (l : Line) (after : List ℕ) (r : Place) : Type 0 where
+  pub wrote : Wrote before (place .to) (offsetAt (place .end) l) after (r .to)
+  pub end-is : r .end ≡ place .end + length (bodyOf l)
+
+-- ---- reading a program, of which there are some bytes already
+
+-- with a line more: a new one begins, or its instruction goes behind them
+unfoldable pub readAfter : (bytes : List ℕ) → Line → List ℕ
+readAfter bytes (line.Rule r) = bytes
+readAfter bytes line.Program = []
+readAfter bytes (line.Instruction i) = bytes ++ bytesOf i
+readAfter bytes line.Other = bytes
+
+-- where a new one begins, the one before it is looked at
+unfoldable pub goodAfter : (good : Bool) (bytes : List ℕ) → Line → Bool
+goodAfter good bytes (line.Rule r) = good
+goodAfter good bytes line.Program = good && programGood bytes
+goodAfter good bytes (line.Instruction i) = good
+goodAfter good bytes line.Other = good
+
+-- What that leaves, and what it needs: the bytes are the first of a room for the longest program.
+pub record Reads (before : List ℕ) (s : Reading) (l : Line) (after : List ℕ) (r : Reading) : Type 0 where
+  pub read : take (r .used) after ≡ readAfter (take (s .used) before) l
+  pub told : r .good ≡ goodAfter (s .good) (take (s .used) before) l
+  pub used-few : r .used ≤ length after
+  pub long : length after ≡ length before
+
+-- the programs that are still to come, and the one that is being read: none is too long, all are good
+unfoldable pub stillShort : (bytes : List ℕ) → List Line → Bool
+stillShort bytes ls = leb (length (bytes ++ leading ls)) maxProgramBytes && shortPrograms (programs ls)
+
+unfoldable pub stillGood : (bytes : List ℕ) → List Line → Bool
+stillGood bytes ls = programGood (bytes ++ leading ls) && goodPrograms (programs ls)
+
+-- ---- what the checks have shown of a sheet: it has so many programs, nothing stands before the first, and its image is not too long and has room
+pub record Writable (sheet out : List ℕ) (n : ℕ) : Type 0 where
+  pub count : n ≡ length (programs (linesFrom 0 sheet))
+  pub few : n ≤ maxPrograms
+  pub nothing-leads : leading (linesFrom 0 sheet) ≡ []
+  pub short : length (imageOfSheet sheet) ≤ maxBytes
+  pub room : Room out 0 (imageOfSheet sheet)

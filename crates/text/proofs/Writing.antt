@@ -45,6 +45,12 @@ wrote-more {a} {at} {w} {b} {r} {x} {c} {s} h k room =
       next = rw length-append (omega (arith, h .next, k .next));
     }
 
+-- what stands up to the place after it
+pub wrote-up-to : {d : List ℕ} {at : ℕ} {w out : List ℕ} {r : ℕ} → Room d at w → Wrote d at w out r → take r out ≡ take at d ++ w
+unfolding pasted
+wrote-up-to {d} {at} {w} {out} {r} room h =
+    rw (h .bytes, h .next) (take-at (take at d ++ w) (drop (at + length w) d) (at + length w) (head-length d at w (room .fits)))
+
 -- ---- room: what fits whole fits piece by piece
 
 module _ {out : List ℕ} {at : ℕ} (w x : List ℕ) (r : Room out at (w ++ x)) where
