@@ -51,6 +51,11 @@ pub record Small (s : Sizes) (most : ℕ) : Type 0 where
   pub instructions-few : s .instructions ≤ most
   pub current-few : s .current ≤ most
 
+-- these are a sheet's, in which every line is allowed: nothing stands before its first program
+pub record Sized (sheet : List ℕ) (s : Sizes) : Type 0 where
+  pub sizes-are : s ≡ tally nothing (linesFrom 0 sheet)
+  pub nothing-leads : leading (linesFrom 0 sheet) ≡ []
+
 -- ---- what a line brings
 
 -- the bytes of its instruction

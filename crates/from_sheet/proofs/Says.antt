@@ -1,0 +1,127 @@
+-- The checks of the call that reads a sheet: what its sizes show, and what the call answers and leaves. Assumes nothing.
+use mathlib.Core.Path.{_≡_, refl, sym, ap, _∙_}
+use mathlib.Core.Bool.{Bool, true, false, _&&_}
+use mathlib.Core.List.{List, [], _∷_, _++_}
+use Prim.Native.Nat.{ℕ, _+_, _*_, _≤_, _<_}
+use native.Mathlib.Omega.{arith}
+use lib.Dec.{eqb, leb}
+use lib.ListN.{length}
+use borrow.Author.Tests.{leb-true, le-leb, lt-leb, eq-eqb, ne-eqb}
+use Rattle.text.specs.Writing.{Wrote, Room}
+use Rattle.text.proofs.Writing.{pasted-front}
+use Rattle.image.specs.Limits.{maxPrograms, maxInstructions, instructionBytes, headBytes, maxBytes}
+use Rattle.image.specs.declared.Refusal.{Refusal}
+use Rattle.image.specs.Refusals as refusal
+use Rattle.image.proofs.Refusing.{fails, goes-on, none-fails, first-refuses, first-passes, number-of, none-is, refused-as, done-as}
+use Rattle.writer.proofs.Programs.{length-image}
+use Rattle.sheet.specs.declared.Written.the-variants.{Refused, BadLine, Length}
+use Rattle.sheet.specs.Sheet.{linesOf, badLine, ruleOf, leading, programs}
+use Rattle.from_sheet.specs.declared.counting.Sizes.{Sizes}
+use Rattle.from_sheet.specs.FromSheet.{programsOf, imageOfSheet, fewPrograms, shortPrograms, goodPrograms, programsRefusal, sheetRefusal, imageOfRefusal}
+use Rattle.from_sheet.specs.FromSheet.{refusedBy, imageOfAnswer, imageOfOutput, ImageOfSays}
+use Rattle.from_sheet.specs.Passes.{linesFrom, tally, nothing, bodies, stillShort, stillGood, Sized, Writable}
+use Rattle.from_sheet.proofs.Passing.{lines-all}
+use Rattle.from_sheet.proofs.Pieces.{all-bodies}
+use Rattle.from_sheet.proofs.Sizing.{tally-programs, tally-bytes, tally-longest, joined-short}
+use Rattle.from_sheet.proofs.ReadPrograms.{all-good, all-short}
+
+-- ---- what the sizes of a sheet show
+
+module _ {sheet : List ℕ} {s : Sizes} (z : Sized sheet s) where
+  same-programs : programs (linesFrom 0 sheet) ≡ programsOf sheet
+  same-programs = ap programs (lines-all sheet)
+
+  pub program-count : s .programs ≡ length (programs (linesFrom 0 sheet))
+  program-count = ap (λ (x : Sizes). x .programs) (z .sizes-are) ∙ tally-programs nothing (linesFrom 0 sheet) ∙ omega arith
+
+  pub few-are : leb (s .programs) maxPrograms ≡ fewPrograms (programsOf sheet)
+  unfolding fewPrograms
+  few-are = ap (λ (n : ℕ). leb n maxPrograms) (program-count ∙ ap length same-programs)
+
+  pub short-are : leb (s .longest) maxInstructions ≡ shortPrograms (programsOf sheet)
+  unfolding stillShort
+  short-are =
+      ap (λ (x : Sizes). leb (x .longest) maxInstructions) (z .sizes-are)
+      ∙ tally-longest nothing [] (linesFrom 0 sheet) (record { long = refl; within = omega arith })
+      ∙ rw (z .nothing-leads) (ap shortPrograms same-programs)
+
+  pub good-are : stillGood [] (linesFrom 0 sheet) ≡ goodPrograms (programsOf sheet)
+  good-are = all-good (linesFrom 0 sheet) (z .nothing-leads) ∙ ap goodPrograms same-programs
+
+  pub short-still : shortPrograms (programsOf sheet) ≡ true → stillShort [] (linesFrom 0 sheet) ≡ true
+  short-still h = all-short (linesFrom 0 sheet) (z .nothing-leads) (ap shortPrograms same-programs ∙ h)
+
+  -- the image's length
+  pub image-long : headBytes (s .programs) + instructionBytes * s .instructions ≡ length (imageOfSheet sheet)
+  unfolding imageOfSheet
+  image-long =
+      let bytes : instructionBytes * s .instructions ≡ length (bodies (linesFrom 0 sheet)) =
+      ap (λ (x : Sizes). instructionBytes * x .instructions) (z .sizes-are) ∙ tally-bytes nothing (linesFrom 0 sheet) ∙ omega arith in
+      rw (← lines-all sheet)
+      (omega (arith, bytes, program-count, ap length (all-bodies (linesFrom 0 sheet) (z .nothing-leads)), length-image (ruleOf (linesFrom 0 sheet)) (programs (linesFrom 0 sheet))))
+
+  -- where checks 2 to 4 have passed, it is not too long
+  module _ (passed : programsRefusal (programsOf sheet) .number ≡ 0) where
+    shown : (fewPrograms (programsOf sheet) ≡ true) × (shortPrograms (programsOf sheet) ≡ true)
+    unfolding programsRefusal
+    shown =
+        let a = none-fails (fewPrograms (programsOf sheet)) refusal.header _ (λ e. omega arith) passed in
+        let b = none-fails (shortPrograms (programsOf sheet)) refusal.offsets _ (λ e. omega arith) (a .1) in
+        (a .0, b .0)
+
+    pub few-programs : s .programs ≤ maxPrograms
+    few-programs = leb-true (s .programs) maxPrograms (few-are ∙ shown .0)
+
+    pub image-short : length (imageOfSheet sheet) ≤ maxBytes
+    unfolding imageOfSheet
+    image-short =
+        omega (arith, few-programs, program-count ∙ ap length same-programs, joined-short (programsOf sheet) (shown .1), length-image (ruleOf (linesOf sheet)) (programsOf sheet))
+
+    pub writable : {out : List ℕ} → length (imageOfSheet sheet) ≤ length out → Writable sheet out (s .programs)
+    writable h =
+        record { count = program-count; few = few-programs; nothing-leads = z .nothing-leads; short = image-short; room = record { fits = omega arith } }
+
+-- ---- what the call says
+
+module _ (sheet out : List ℕ) where
+  pub bad-says : {k : ℕ} → k ≡ badLine sheet → (k ≡ 0 → ⊥) → ImageOfSays sheet out (BadLine k) out
+  unfolding imageOfAnswer imageOfOutput refusedBy sheetRefusal imageOfRefusal
+  bad-says {k} e h =
+      let bad : eqb (badLine sheet) 0 ≡ false = ne-eqb (badLine sheet) 0 (λ f. h (e ∙ f)) in
+      let r : refusal.line ≡ imageOfRefusal sheet out = first-refuses _ (fails _ bad) (λ f. omega arith) in
+      record {
+        answer = ap BadLine e ∙ sym (rw bad) ∙ refused-as (refusedBy sheet) _ r (λ f. omega arith);
+        output = refused-as (λ x. out) _ r (λ f. omega arith);
+      }
+
+  module _ (good : badLine sheet ≡ 0) where
+    refused-with : (r : Refusal) → r ≡ imageOfRefusal sheet out → (r .number ≡ 0 → ⊥) → ImageOfSays sheet out (Refused r) out
+    unfolding imageOfAnswer imageOfOutput refusedBy
+    refused-with r e h =
+        record {
+          answer = sym (rw (eq-eqb (badLine sheet) 0 good)) ∙ refused-as (refusedBy sheet) _ e h;
+          output = refused-as (λ x. out) _ e h;
+        }
+
+    pub refused-says : {r : Refusal} → r ≡ programsRefusal (programsOf sheet) → (r .number ≡ 0 → ⊥) → ImageOfSays sheet out (Refused r) out
+    unfolding imageOfRefusal sheetRefusal
+    refused-says {r} e h = refused-with r (first-refuses _ (goes-on refusal.line (eq-eqb (badLine sheet) 0 good) e) h) h
+
+    module _ (passed : programsRefusal (programsOf sheet) .number ≡ 0) where
+      sheet-passed : sheetRefusal sheet .number ≡ 0
+      unfolding sheetRefusal
+      sheet-passed = number-of (sym (goes-on refusal.line (eq-eqb (badLine sheet) 0 good) (sym (none-is passed))))
+
+      pub short-says : length out < length (imageOfSheet sheet) → ImageOfSays sheet out (Refused refusal.tooShort) out
+      unfolding imageOfRefusal
+      short-says h =
+          refused-with refusal.tooShort (first-passes refl sheet-passed (fails _ (lt-leb (length (imageOfSheet sheet)) (length out) h))) (λ f. omega arith)
+
+      pub done-says : length (imageOfSheet sheet) ≤ length out → {n : ℕ} {out′ : List ℕ} → Wrote out 0 (imageOfSheet sheet) out′ n → ImageOfSays sheet out (Length n) out′
+      unfolding imageOfRefusal imageOfAnswer imageOfOutput
+      done-says h w =
+          let e : refusal.none ≡ imageOfRefusal sheet out = first-passes refl sheet-passed (goes-on refusal.tooShort (le-leb (length (imageOfSheet sheet)) (length out) h) refl) in
+          record {
+            answer = done-as (refusedBy sheet) e refl (ap Length (omega (arith, w .next)));
+            output = done-as (λ x. out) e refl (w .bytes ∙ pasted-front out (imageOfSheet sheet));
+          }
