@@ -1,3 +1,4 @@
 pub mod Parts
 pub mod ReadingLines
 pub mod Cases
+pub mod Splits
