@@ -54,12 +54,12 @@ between s (part ∷ []) = part
 between s (part ∷ next ∷ parts) = part ++ (s ∷ between s (next ∷ parts))
 
 -- there is a first part
-record First (parts : List (List ℕ)) : Type 0 where
+pub record First (parts : List (List ℕ)) : Type 0 where
   pub part : List ℕ
   pub more : List (List ℕ)
   pub are : parts ≡ part ∷ more
 
-first-part : (s : ℕ) (text : List ℕ) → First (split s text)
+pub first-part : (s : ℕ) (text : List ℕ) → First (split s text)
 unfolding split onto
 first-part s [] = record { part = []; more = []; are = refl }
 first-part s (x ∷ xs) = go (eqb x s) (first-part s xs)
