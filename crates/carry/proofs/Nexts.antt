@@ -1,54 +1,24 @@
 -- The next image, where nothing is refused, is a good image; its programs are the carried ones in number order and then the fresh ones, with the
 -- fresh image's rule byte. Assumes nothing.
-use mathlib.Core.Path.{_≡_, refl, _∙_}
-use mathlib.Core.Bool.{Bool, true, false, cond, _&&_}
-use mathlib.Core.List.{List, [], _∷_}
-use Prim.Native.Nat.{ℕ, zero, suc, _+_, _≤_, _<_}
+use mathlib.Core.Path.{_≡_, _∙_}
+use mathlib.Core.Bool.{true}
+use mathlib.Core.List.{List, []}
+use Prim.Native.Nat.{ℕ, _+_, _≤_, _<_}
 use native.Mathlib.Omega.{arith}
-use lib.Dec.{leb, eqb}
 use lib.ListN.{length, length-append, List·getD-append}
-use borrow.Author.Tests.{leb-true}
 use Rattle.base.specs.Words.{count}
-use Rattle.base.proofs.Bools.{and-left, and-right}
-use Rattle.base.proofs.Counts.{count-below, count-all}
-use Rattle.base.proofs.Numbers.{every-at}
+use Rattle.base.proofs.Counts.{count-below}
 use Rattle.image.specs.Limits.{maxPrograms}
-use Rattle.image.specs.Instruction.{programGood}
-use Rattle.image.specs.Image.{byteAt, countOf, ruleByte, partOf, headerGood, codeGood, refusalOf}
-use Rattle.image.proofs.Laws.{Accepted, accepted, part-short, part-whole}
-use Rattle.writer.specs.Picked.{pick, picked, allOf}
+use Rattle.image.specs.Image.{countOf, ruleByte, partOf, refusalOf}
+use Rattle.image.proofs.Laws.{accepted}
+use Rattle.writer.specs.Picked.{allOf}
 use Rattle.writer.proofs.Programs.{picked-count, picked-at}
-use Rattle.writer.proofs.Good.{Fine, All, all-append, image-count, image-rule, image-part, image-good, image-programs}
+use Rattle.writer.proofs.Again.{small-rule, picked-fine, all-count}
+use Rattle.writer.proofs.Good.{All, all-append, image-count, image-rule, image-part, image-good, image-programs}
 use Rattle.slot.specs.declared.Group.the-variants.{Carried}
 use Rattle.area.specs.Layout.{inGroup}
 use Rattle.carry.specs.Next.{carriedCount, carriedOf, nextPrograms, nextImage, nextRefusal}
 use Rattle.carry.proofs.Checks.{NextShows, next-shows}
-
--- ---- the programs of a good image are good programs
-
-part-fine : (image : List ℕ) → Accepted image → (i : ℕ) → i < countOf image → Fine (partOf image i)
-unfolding codeGood
-part-fine image good i below = record {
-  whole-instructions = part-whole image (good .offsets) i below;
-  short = part-short image (good .offsets) i below;
-  code = every-at (countOf image) (λ q. programGood (partOf image q)) (good .code) i below;
-}
-
-picked-fine : (test : ℕ → Bool) (image : List ℕ) → Accepted image → (k : ℕ) → k ≤ countOf image → All (picked test image k)
-unfolding picked pick
-picked-fine test image good zero h = tt
-picked-fine test image good (suc k) h = all-append (picked test image k) (pick test image k) (picked-fine test image good k (omega arith)) (go (test k))
-  where
-    go : (b : Bool) → All (cond b (partOf image k ∷ []) [])
-    go true = (part-fine image good k (omega arith), tt)
-    go false = tt
-
-small-rule : (image : List ℕ) → Accepted image → ruleByte image ≤ 2
-unfolding headerGood
-small-rule image good =
-    leb-true (ruleByte image) 2
-    (and-right (leb (countOf image) maxPrograms) (leb (ruleByte image) 2)
-    (and-left (leb (countOf image) maxPrograms && leb (ruleByte image) 2) (eqb (byteAt image 3) 0) (good .header)))
 
 -- ---- the next image
 
@@ -65,9 +35,7 @@ module _ (image t a fresh out : List ℕ) (none : nextRefusal image t a fresh ou
 
   many : length programs ≡ carriedCount (length t) (countOf image) a + countOf fresh
   unfolding nextPrograms
-  many =
-      let fresh-many = picked-count (λ k. true) fresh (countOf fresh) ∙ count-all (λ k. true) (countOf fresh) (λ i l. refl) in
-      rw length-append (omega (arith, carried-many, fresh-many))
+  many = rw length-append (omega (arith, carried-many, all-count fresh))
 
   few : length programs ≤ maxPrograms
   few = omega (arith, many, shown .few-enough)
