@@ -35,7 +35,7 @@ small-rule image good =
     (and-right (leb (countOf image) maxPrograms) (leb (ruleByte image) 2)
     (and-left (leb (countOf image) maxPrograms && leb (ruleByte image) 2) (eqb (byteAt image 3) 0) (good .header)))
 
-part-fine : (image : List ℕ) → Accepted image → (i : ℕ) → i < countOf image → Fine (partOf image i)
+pub part-fine : (image : List ℕ) → Accepted image → (i : ℕ) → i < countOf image → Fine (partOf image i)
 unfolding codeGood
 part-fine image good i below = record {
   whole-instructions = part-whole image (good .offsets) i below;
