@@ -1,2 +1,5 @@
+pub mod Checks
 pub mod Places
 pub mod Programs
+pub mod RoundTrip
+pub mod Undoing

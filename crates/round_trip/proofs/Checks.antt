@@ -1,0 +1,90 @@
+-- What the checks of a sheet show, what is enough for them, and what a call leaves that is not refused. Assumes nothing.
+use mathlib.Core.Path.{_≡_, refl, sym, ap, _∙_}
+use mathlib.Core.Bool.{Bool, true, _&&_}
+use mathlib.Core.List.{List, [], _∷_, _++_}
+use Prim.Native.Nat.{ℕ, _≤_}
+use native.Mathlib.Omega.{arith}
+use lib.Dec.{eqb, leb}
+use lib.ListN.{length, drop}
+use borrow.Author.Tests.{leb-true, eqb-true, le-leb, eq-eqb}
+use Rattle.base.proofs.Bools.{and-both, both-and}
+use Rattle.image.specs.Limits.{maxPrograms, maxProgramBytes}
+use Rattle.image.specs.Refusals as refusal
+use Rattle.image.specs.Refusals.{check}
+use Rattle.image.specs.Instruction.{programGood}
+use Rattle.image.specs.Image.{refusalOf}
+use Rattle.image.proofs.Refusing.{goes-on, none-fails, first-passes, number-of, unless-done}
+use Rattle.writer.proofs.Good.{Fine, All}
+use Rattle.sheet.specs.declared.Written.{Written}
+use Rattle.sheet.specs.declared.Written.the-variants.{Length}
+use Rattle.sheet.specs.Sheet.{badLine}
+use Rattle.from_sheet.specs.FromSheet.{programsOf, imageOfSheet, all, fewPrograms, shortPrograms, goodPrograms, programsRefusal, sheetRefusal}
+use Rattle.from_sheet.specs.FromSheet.{imageOfRefusal, imageOfAnswer, imageOfOutput}
+use Rattle.from_image.specs.FromImage.{sheetOfImage, sheetOfRefusal, sheetOfAnswer, sheetOfOutput}
+use Rattle.round_trip.proofs.Programs.{Whole}
+
+-- ---- the programs of a sheet
+
+all-short : (ps : List (List ℕ)) → All ps → shortPrograms ps ≡ true
+unfolding shortPrograms all
+all-short [] h = refl
+all-short (p ∷ ps) h = both-and (le-leb (length p) maxProgramBytes (h .0 .short)) (all-short ps (h .1))
+
+all-good : (ps : List (List ℕ)) → All ps → goodPrograms ps ≡ true
+unfolding goodPrograms all
+all-good [] h = refl
+all-good (p ∷ ps) h = both-and (h .0 .code) (all-good ps (h .1))
+
+all-fine : (ps : List (List ℕ)) → Whole ps → shortPrograms ps ≡ true → goodPrograms ps ≡ true → All ps
+unfolding shortPrograms goodPrograms all
+all-fine [] w s g = tt
+all-fine (p ∷ ps) w s g =
+    let x = and-both (leb (length p) maxProgramBytes) (shortPrograms ps) s in
+    let y = and-both (programGood p) (goodPrograms ps) g in
+    (record { whole-instructions = w .0; short = leb-true _ _ (x .0); code = y .0 }, all-fine ps (w .1) (x .1) (y .1))
+
+-- a sheet that is not refused: no line is, and its programs are few and good
+pub record Passed (sheet : List ℕ) : Type 0 where
+  pub lines : badLine sheet ≡ 0
+  pub few : length (programsOf sheet) ≤ maxPrograms
+  pub fine : All (programsOf sheet)
+
+pub passed : (sheet : List ℕ) → Whole (programsOf sheet) → sheetRefusal sheet .number ≡ 0 → Passed sheet
+unfolding sheetRefusal programsRefusal fewPrograms
+passed sheet w e =
+    let ps = programsOf sheet in
+    let l = none-fails (eqb (badLine sheet) 0) refusal.line _ (λ z. omega arith) e in
+    let f = none-fails (fewPrograms ps) refusal.header _ (λ z. omega arith) (l .1) in
+    let s = none-fails (shortPrograms ps) refusal.offsets _ (λ z. omega arith) (f .1) in
+    let g = none-fails (goodPrograms ps) refusal.instruction _ (λ z. omega arith) (s .1) in
+    record { lines = eqb-true _ _ (l .0); few = leb-true _ _ (f .0); fine = all-fine ps w (s .0) (g .0) }
+
+pub passes : (sheet : List ℕ) → Passed sheet → sheetRefusal sheet .number ≡ 0
+unfolding sheetRefusal programsRefusal fewPrograms
+passes sheet p =
+    let ps = programsOf sheet in
+    number-of (sym (goes-on refusal.line (eq-eqb (badLine sheet) 0 (p .lines))
+    (goes-on refusal.header (le-leb (length ps) maxPrograms (p .few))
+    (goes-on refusal.offsets (all-short ps (p .fine)) (goes-on refusal.instruction (all-good ps (p .fine)) refl)))))
+
+-- ---- the calls, where the output is long enough: they answer how many bytes they wrote, and these stand there
+
+module _ (sheet out : List ℕ) (good : sheetRefusal sheet .number ≡ 0) (fits : length (imageOfSheet sheet) ≤ length out) where
+  image-fits : imageOfRefusal sheet out .number ≡ 0
+  unfolding imageOfRefusal
+  image-fits = number-of (sym (first-passes refl good (goes-on refusal.tooShort (le-leb (length (imageOfSheet sheet)) (length out) fits) refl)))
+
+  pub image-written : (imageOfAnswer sheet out ≡ Length (length (imageOfSheet sheet)))
+      × (imageOfOutput sheet out ≡ imageOfSheet sheet ++ drop (length (imageOfSheet sheet)) out)
+  unfolding imageOfAnswer imageOfOutput
+  image-written = (unless-done _ _ _ image-fits, unless-done _ _ _ image-fits)
+
+module _ (image out : List ℕ) (good : refusalOf image .number ≡ 0) (fits : length (sheetOfImage image) ≤ length out) where
+  sheet-fits : sheetOfRefusal image out .number ≡ 0
+  unfolding sheetOfRefusal
+  sheet-fits = number-of (sym (first-passes refl good (goes-on refusal.tooShort (le-leb (length (sheetOfImage image)) (length out) fits) refl)))
+
+  pub sheet-written : (sheetOfAnswer image out ≡ Length (length (sheetOfImage image)))
+      × (sheetOfOutput image out ≡ sheetOfImage image ++ drop (length (sheetOfImage image)) out)
+  unfolding sheetOfAnswer sheetOfOutput
+  sheet-written = (unless-done _ _ _ sheet-fits, unless-done _ _ _ sheet-fits)
