@@ -1,10 +1,8 @@
 -- Each way undoes the other: the lines of an image are read as its lines, and an image of a sheet has the sheet's lines. Assumes nothing.
-use mathlib.Core.Path.{_≡_, refl, sym, ap, _∙_}
-use mathlib.Core.List.{List, [], _∷_, _++_}
+use mathlib.Core.Path.{_≡_, sym, ap, _∙_}
+use mathlib.Core.List.{List, [], _∷_}
 use Prim.Native.Nat.{ℕ, _≤_}
 use native.Mathlib.Omega.{arith}
-use lib.ListN.{length}
-use Rattle.image.specs.Limits.{maxPrograms}
 use Rattle.image.specs.Image.{ruleByte, refusalOf}
 use Rattle.image.proofs.Laws.{Accepted, accepted, few-programs}
 use Rattle.writer.specs.Joined.{imageOf}
@@ -18,7 +16,7 @@ use Rattle.sheet.proofs.Sheets.{WellPlaced, Typing, sheet-read, sheet-allowed, 
 use Rattle.from_sheet.specs.FromSheet.{programsOf, imageOfSheet, sheetRefusal}
 use Rattle.from_image.specs.FromImage.{linesFor, sheetOfImage}
 use Rattle.round_trip.specs.Bytes.{Bytes}
-use Rattle.round_trip.proofs.Checks.{Passed, passed, passes}
+use Rattle.round_trip.proofs.Checks.{Passed, passed, enough}
 use Rattle.round_trip.proofs.Places.{bytes-at, all-typable, lines-placed}
 use Rattle.round_trip.proofs.Programs.{Whole, programs-whole, programs-behind, rule-behind, lines-rule, lines-programs, lines-back}
 
@@ -56,7 +54,7 @@ module _ (image : List ℕ) (bytes : Bytes image) (e : refusalOf image .number �
 
   pub its-sheet-passes : sheetRefusal (sheetOfImage image) .number ≡ 0
   unfolding sheetOfImage
-  its-sheet-passes = passes (sheetOfImage image) (record {
+  its-sheet-passes = enough (sheetOfImage image) (record {
     lines = sheet-allowed lines placed;
     few = rw the-programs (omega (arith, all-count image, few-programs image (good .header)));
     fine = rw the-programs fine;
