@@ -1,7 +1,13 @@
 -- "Each way undoes the other", tried by computation on the definitions. The numbers are literals. Assumes nothing.
 use Prim.Native.Nat.{ℕ}
 use mathlib.Core.Path.{_≡_, refl}
+use mathlib.Core.Bool.{true}
 use mathlib.Core.List.{List, [], _∷_, map}
+use lib.Dec.{ltb}
+use lib.ListN.{length, getD}
+use borrow.Author.Tests.{ltb-true}
+use Rattle.base.specs.Words.{every}
+use Rattle.base.proofs.Numbers.{every-at}
 use Rattle.text.specs.Ascii.{ascii}
 use Rattle.image.specs.Image.{refusalOf}
 use Rattle.image.specs.Assembler.{image, program, end, set, load, store, add, sub, skipless, skipequal, reject}
@@ -9,6 +15,7 @@ use Rattle.from_sheet.specs.FromSheet.{imageOfSheet, sheetRefusal}
 use Rattle.from_sheet.specs.Opened as from-sheet
 use Rattle.from_image.specs.FromImage.{sheetOfImage}
 use Rattle.from_image.specs.Opened as from-image
+use Rattle.round_trip.specs.Bytes.{Bytes}
 
 -- an image of three programs, in which every operation stands: there and back
 abbrev bytes : List ℕ
@@ -19,6 +26,14 @@ bytes =
 image-there-and-back : (refusalOf bytes .number ≡ 0) × (sheetRefusal (sheetOfImage bytes) .number ≡ 0) × (imageOfSheet (sheetOfImage bytes) ≡ bytes)
 unfolding from-sheet.opened from-image.opened
 image-there-and-back = (refl, refl, refl)
+
+-- it is bytes, as the theorem asks
+is-bytes : (xs : List ℕ) → every (length xs) (λ i. ltb (getD xs i 0) 256) ≡ true → Bytes xs
+is-bytes xs h = record { each = λ i l. ltb-true _ _ (every-at (length xs) (λ i. ltb (getD xs i 0) 256) h i l) }
+
+image-bytes : Bytes bytes
+unfolding every
+image-bytes = is-bytes bytes refl
 
 -- a sheet, there and back
 abbrev text : List ℕ

@@ -9,7 +9,7 @@ use Rattle.sheet.specs.declared.Written.the-variants.{Length}
 use Rattle.from_sheet.specs.FromSheet.{imageOfSheet, sheetRefusal, ImageOfSays}
 use Rattle.from_image.specs.FromImage.{sheetOfImage, SheetOfSays}
 use Rattle.round_trip.specs.Bytes.{Bytes}
-use Rattle.round_trip.proofs.Checks.{holds-first, image-written, image-answered, sheet-written, sheet-answered}
+use Rattle.round_trip.proofs.Calls.{holds-first, image-written, image-answered, sheet-written, sheet-answered}
 use Rattle.round_trip.proofs.Undoing.{its-sheet-passes, its-sheet-gives-it, its-image-passes, its-image-gives-it}
 
 -- "Each way undoes the other": the sheet of an accepted image is accepted, and gives that very image.

@@ -10,7 +10,6 @@ use Rattle.writer.specs.Picked.{allOf}
 use Rattle.writer.proofs.Again.{small-rule, picked-fine, all-count, again}
 use Rattle.writer.proofs.Good.{All, image-rule, image-good, image-programs}
 use Rattle.sheet.specs.declared.Line.{Line}
-use Rattle.sheet.specs.declared.Line.the-variants as line
 use Rattle.sheet.specs.Sheet.{linesOf, ruleOf, programs, sheetText}
 use Rattle.sheet.proofs.Sheets.{WellPlaced, Typing, sheet-read, sheet-allowed, sheet-back}
 use Rattle.from_sheet.specs.FromSheet.{programsOf, imageOfSheet, sheetRefusal}

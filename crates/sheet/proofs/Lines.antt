@@ -20,7 +20,7 @@ use Rattle.sheet.specs.declared.Line.{Line}
 use Rattle.sheet.specs.declared.Line.the-variants as line
 use Rattle.sheet.specs.Split.{split, same}
 use Rattle.sheet.specs.Opened.{opened}
-use Rattle.sheet.specs.Sheet.{newline, space, names, operations, nameOf, lineText, largestRule, largestByte}
+use Rattle.sheet.specs.Sheet.{newline, space, operations, nameOf, lineText, largestRule, largestByte}
 use Rattle.sheet.specs.Sheet.{operationOf, isUpTo, programLine, ruleLine, instructionLine, byWords, lineOf}
 use Rattle.sheet.proofs.Splits.{same-true, split-none, split-next, between, split-between}
 
@@ -41,24 +41,27 @@ Typed line.Other = ⊥
 -- ---- names
 
 -- each of the nine is read as its operation, and has neither a space nor a newline in it
-nine : every operations (λ op. eqb (operationOf (nameOf op)) op && not (has space (nameOf op)) && not (has newline (nameOf op))) ≡ true
+nine-read : every operations (λ op. eqb (operationOf (nameOf op)) op) ≡ true
+unfolding opened every
+nine-read = refl
+
+nine-no-space : every operations (λ op. not (has space (nameOf op))) ≡ true
 unfolding opened every has
-nine = refl
+nine-no-space = refl
+
+nine-no-newline : every operations (λ op. not (has newline (nameOf op))) ≡ true
+unfolding opened every has
+nine-no-newline = refl
 
 module _ (op : ℕ) (h : op < operations) where
-  one-of-nine : (eqb (operationOf (nameOf op)) op && not (has space (nameOf op)) ≡ true) × (not (has newline (nameOf op)) ≡ true)
-  one-of-nine =
-      and-both (eqb (operationOf (nameOf op)) op && not (has space (nameOf op))) (not (has newline (nameOf op)))
-      (every-at operations (λ op. eqb (operationOf (nameOf op)) op && not (has space (nameOf op)) && not (has newline (nameOf op))) nine op h)
-
   pub operation-name : operationOf (nameOf op) ≡ op
-  operation-name = eqb-true _ _ (and-both (eqb (operationOf (nameOf op)) op) (not (has space (nameOf op))) (one-of-nine .0) .0)
+  operation-name = eqb-true _ _ (every-at operations (λ op. eqb (operationOf (nameOf op)) op) nine-read op h)
 
   name-no-space : has space (nameOf op) ≡ false
-  name-no-space = nots _ (and-both (eqb (operationOf (nameOf op)) op) (not (has space (nameOf op))) (one-of-nine .0) .1)
+  name-no-space = nots _ (every-at operations (λ op. not (has space (nameOf op))) nine-no-space op h)
 
   name-no-newline : has newline (nameOf op) ≡ false
-  name-no-newline = nots _ (one-of-nine .1)
+  name-no-newline = nots _ (every-at operations (λ op. not (has newline (nameOf op))) nine-no-newline op h)
 
 pub name-operation : (word : List ℕ) → operationOf word < operations → nameOf (operationOf word) ≡ word
 unfolding operationOf
@@ -170,8 +173,10 @@ instruction-back word a b c true e h =
     let o = ltb-true (operationOf word) operations (one .0) in
     let x = up-to largestByte a (one .1) in
     let y = up-to largestByte b (two .1) in
-    let z = up-to largestByte c (three .1) in
-    (rw (instruction-text (record { op = operationOf word; a = value a; b = value b; c = value c }), name-operation word o, x .0, y .0, z .0), record { named = o; byte-a = x .1; byte-b = y .1; byte-c = z .1 })
+    let z = up-to largestByte c (three .1) in (
+      rw (instruction-text (record { op = operationOf word; a = value a; b = value b; c = value c }), name-operation word o, x .0, y .0, z .0),
+      record { named = o; byte-a = x .1; byte-b = y .1; byte-c = z .1 },
+    )
 instruction-back word a b c false e h = absurd (h refl)
 
 words-back : (words : List (List ℕ)) → (byWords words ≡ line.Other → ⊥) → (between space words ≡ lineText (byWords words)) × Typed (byWords words)
