@@ -174,6 +174,12 @@ one-way (b ∷ c ∷ bs) h =
 
 -- ---- how long it is
 
+pub length-small : (n : ℕ) → n < 10 → length (decimal n) ≡ 1
+length-small n h = rw (decimal-small n h)
+
+pub length-large : (n : ℕ) → 10 ≤ n → length (decimal n) ≡ length (decimal (n / 10)) + 1
+length-large n h = rw (decimal-large n h, length-append)
+
 -- 1, 10, 100, ..
 abbrev tens : ℕ → ℕ
 tens zero = 1
@@ -187,9 +193,12 @@ decimal-fits (suc k) n h = go (ltb n 10) refl (decimal-fits k (n / 10) (omega ar
     go true e rest = rw (decimal-small n (ltb-true n 10 e)) (omega arith)
     go false e rest = rw (decimal-large n (ltb-false n 10 e), length-append) (omega (arith, rest))
 
--- a number of 32 bits has at most 10 digits, a byte at most 3
+-- a number of 32 bits has at most 10 digits, a byte at most 3, a number below 100 at most 2
 pub decimal-short : (n : ℕ) → n < 4294967296 → length (decimal n) ≤ 10
 decimal-short n h = decimal-fits 9 n (omega arith)
 
 pub byte-short : (n : ℕ) → n < 256 → length (decimal n) ≤ 3
 byte-short n h = decimal-fits 2 n (omega arith)
+
+pub pair-short : (n : ℕ) → n < 100 → length (decimal n) ≤ 2
+pair-short n h = decimal-fits 1 n (omega arith)

@@ -50,6 +50,19 @@ pub fn put_decimal(out: &mut [u8], at: usize, n: u64) -> usize
     put_byte(out, next, b'0' + (n % 10) as u8)
 }
 
+// How many digits a number has in decimal: one, and one more for each time that it can be divided by 10.
+pub fn decimal_length(n: u32) -> usize
+    ensures { λ r. ⌜ r ≡ length (decimal n) ⌝ }
+{
+    let mut rest = n;
+    let mut digits: usize = 1;
+    while 10 <= rest {
+        rest = rest / 10;
+        digits += 1;
+    }
+    digits
+}
+
 // How far a text has come: where its next byte goes, and how many of the numbers have been used.
 pub struct Filling {
     pub to: usize,
