@@ -1,1 +1,5 @@
 pub mod Cases
+pub mod Lines
+pub mod Sheets
+pub mod Checks
+pub mod Unique

@@ -1,2 +1,3 @@
 pub mod FromImage
+pub mod Typing
 pub mod Opened

@@ -3,7 +3,7 @@ use mathlib.Core.Path.{_≡_, refl, sym, ap, _∙_}
 use mathlib.Core.Logic.{_⊎_, inl, inr}
 use mathlib.Core.Bool.{Bool, true, false, cond, _&&_}
 use mathlib.Core.List.{List, [], _∷_, _++_, append-assoc, append-nil}
-use Prim.Native.Nat.{ℕ, zero, suc, _+_, _*_, _≤_, _<_}
+use Prim.Native.Nat.{ℕ, zero, suc, _+_, _-_, _*_, _≤_, _<_}
 use native.Mathlib.Omega.{arith}
 use native.Mathlib.Numerals.{add-one}
 use lib.Dec.{eqb, ltb}
@@ -82,7 +82,35 @@ pub texts-more : (f : ℕ → List ℕ) (k : ℕ) → texts f (k + 1) ≡ texts 
 unfolding texts
 texts-more f k = rw (add-one k)
 
+pub length-texts : (f : ℕ → List ℕ) (k : ℕ) → length (texts f (k + 1)) ≡ length (texts f k) + length (f k)
+length-texts f k = rw (texts-more f k, length-append)
+
 pub texts-short : (f : ℕ → List ℕ) (n most : ℕ) → ((k : ℕ) → k < n → length (f k) ≤ most) → length (texts f n) ≤ n * most
 unfolding texts
 texts-short f zero most h = omega arith
 texts-short f (suc n) most h = rw length-append (omega (arith, h n (omega arith), texts-short f n most (λ k l. h k (omega arith))))
+
+-- those below n begin with those below k
+rest-of : (f : ℕ → List ℕ) (k j : ℕ) → (rest : List ℕ) × (texts f (k + j) ≡ texts f k ++ rest)
+unfolding texts
+rest-of f k zero = ([], let e : k + 0 ≡ k = omega arith in rw (e, append-nil))
+rest-of f k (suc j) =
+    let t = rest-of f k j in
+    let e : k + suc j ≡ suc (k + j) = omega arith in
+    (t .0 ++ f (k + j), rw (e, t .1, append-assoc))
+
+-- a turn of a loop that writes them: there is room for text k, and behind it text k + 1 is to come
+module _ (f : ℕ → List ℕ) {k n : ℕ} (low : k < n) {d : List ℕ} {at : ℕ} {out : List ℕ} {to : ℕ} (h : Wrote d at (texts f k) out to)
+    (room : Room d at (texts f n)) where
+  next-room : Room d at (texts f k ++ f k)
+  next-room =
+      let t = rest-of f (k + 1) (n - (k + 1)) in
+      let e : n ≡ k + 1 + (n - (k + 1)) = omega arith in
+      let w : texts f n ≡ (texts f k ++ f k) ++ t .0 = ap (texts f) e ∙ t .1 ∙ ap (λ (x : List ℕ). x ++ t .0) (texts-more f k) in
+      room-first (texts f k ++ f k) (t .0) (rw w at room)
+
+  pub text-room : Room out to (f k)
+  text-room = room-then (texts f k) (f k) next-room h
+
+  pub text-turn : {out′ : List ℕ} {to′ : ℕ} → Wrote out to (f k) out′ to′ → Wrote d at (texts f (k + 1)) out′ to′
+  text-turn w = rw (texts-more f k) (wrote-both (texts f k) (f k) next-room h w)

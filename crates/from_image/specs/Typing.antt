@@ -1,0 +1,20 @@
+-- What the functions that write a sheet need of what they write: what checks 1 to 4 have shown. Assumes nothing.
+use Prim.Native.Nat.{ℕ, _≤_, _<_}
+use mathlib.Core.Path.{_≡_}
+use mathlib.Core.Bool.{true}
+use mathlib.Core.List.{List}
+use lib.ListN.{length}
+use Rattle.image.specs.Limits.{maxPrograms, maxProgramBytes}
+use Rattle.image.specs.Instruction.{programGood}
+use Rattle.image.specs.Image.{Lies, partOf}
+
+-- a program: it is short, and its instructions are good, so that each has a name
+pub record Good (program : List ℕ) : Type 0 where
+  pub short : length program ≤ maxProgramBytes
+  pub code : programGood program ≡ true
+
+-- the first n programs of an image: each lies in it and is good
+pub record Programs (image : List ℕ) (n : ℕ) : Type 0 where
+  pub few : n ≤ maxPrograms
+  pub lies : (k : ℕ) → k < n → Lies image k
+  pub good : (k : ℕ) → k < n → Good (partOf image k)
