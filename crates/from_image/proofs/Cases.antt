@@ -6,10 +6,11 @@ use mathlib.Core.List.{List, [], _∷_, _++_, map}
 use lib.ListN.{length, replicate}
 use Rattle.text.specs.Ascii.{ascii}
 use Rattle.image.specs.Refusals.{refusing}
-use Rattle.image.specs.Assembler.{image, program, fields, end, set, load, store, add, sub, skipless, skipequal, reject, instruction}
-use Rattle.sheet.specs.declared.Written.{Written}
+use Rattle.image.specs.Image.{refusalOf}
+use Rattle.image.specs.Assembler.{image, program, fields, end, set, load, store, add, sub, skipless, skipequal, reject}
 use Rattle.sheet.specs.declared.Written.the-variants.{Refused, Length}
 use Rattle.from_image.specs.FromImage.{sheetOfImage, sheetOfAnswer, sheetOfOutput}
+use Rattle.from_image.specs.Longest.{longestSheet}
 use Rattle.from_image.specs.Opened.{opened}
 
 -- "rule R" with the raw byte; a program without instructions; one of each instruction
@@ -32,6 +33,11 @@ answered : (sheetOfAnswer (image 1 ([] ∷ [])) (room 16) ≡ Length 15) × (she
 unfolding opened
 answered = (refl, refl)
 
+-- an output of exactly the sheet's length is enough
+exact : (sheetOfAnswer (image 1 []) (room 7) ≡ Length 7) × (sheetOfOutput (image 1 []) (room 7) ≡ ascii "rule 1\n")
+unfolding opened
+exact = (refl, refl)
+
 -- "From an image: 1 to 4, then 10": five bytes; a count of 65; a first offset that is not 8; a register over 7; and one byte short
 refused : map (λ bytes. sheetOfAnswer bytes (room 6))
     (room 5 ∷ fields 65 1 0 (0 ∷ []) [] ∷ fields 1 1 0 (9 ∷ 9 ∷ []) [] ∷ image 1 (program (set 8 0 ∷ []) ∷ []) ∷ image 1 [] ∷ [])
@@ -43,3 +49,11 @@ refused = refl
 untouched : sheetOfOutput (image 1 []) (room 6) ∷ sheetOfOutput [] (room 2) ∷ [] ≡ room 6 ∷ room 2 ∷ []
 unfolding opened
 untouched = refl
+
+-- the longest sheet: 64 programs, each with 22 skips of 10 and then 10 skips of one digit
+abbrev longest : List ℕ
+longest = image 2 (replicate 64 (program (replicate 22 (skipequal 7 7 10) ++ replicate 10 (skipequal 7 7 0))))
+
+longest-sheet : (refusalOf longest .number ≡ 0) × (length (sheetOfImage longest) ≡ longestSheet) × (longestSheet ≡ 34695)
+unfolding opened longestSheet
+longest-sheet = (refl, refl, refl)

@@ -1,7 +1,7 @@
 -- Laws of a sheet's lines: one after another, and each as the code writes it, with its newline. Assumes nothing.
-use mathlib.Core.Path.{_≡_, refl, sym, ap, _∙_}
+use mathlib.Core.Path.{_≡_, refl, sym}
 use mathlib.Core.List.{List, [], _∷_, _++_, append-assoc, append-nil}
-use Prim.Native.Nat.{ℕ, zero, suc, _+_, _-_, _≤_, _<_}
+use Prim.Native.Nat.{ℕ, zero, suc, _+_, _-_, _≤_}
 use native.Mathlib.Omega.{arith}
 use lib.ListN.{length, take, length-append}
 use lib.Seq.{length-take-le}
@@ -13,6 +13,7 @@ use Rattle.sheet.specs.declared.Name.{Name}
 use Rattle.sheet.specs.declared.Line.{Line}
 use Rattle.sheet.specs.declared.Line.the-variants as line
 use Rattle.sheet.specs.Sheet.{newline, names, nameOf, Named, lineText, sheetText}
+use Rattle.from_image.specs.Typing.{mostName}
 
 -- ---- one after another
 
@@ -51,7 +52,7 @@ name-part {n = n} h = let e : n .length - 0 ≡ n .length = omega arith in rw e 
 pub name-length : {op : ℕ} {n : Name} → Named op n → n .length ≡ length (nameOf op)
 name-length {n = n} h = rw (← h .bytes-are) (sym (length-take-le (n .length) (n .bytes) (h .long)))
 
-pub name-short : (op : ℕ) → length (nameOf op) ≤ 9
+pub name-short : (op : ℕ) → length (nameOf op) ≤ mostName
 unfolding nameOf names
 name-short zero = omega arith
 name-short (suc zero) = omega arith

@@ -1,15 +1,14 @@
 -- Laws of the lines of a program and of the programs: they are texts one behind the other, which the code writes one a turn. And each instruction of a good
 -- program has a name. Assumes nothing.
-use mathlib.Core.Path.{_≡_, refl, sym, ap, _∙_}
+use mathlib.Core.Path.{_≡_, refl, ap, _∙_}
 use mathlib.Core.Logic.{_⊎_, inl, inr}
 use mathlib.Core.Bool.{true, false}
 use mathlib.Core.List.{List, [], _∷_, _++_, append-assoc, append-nil}
-use Prim.Native.Nat.{ℕ, zero, suc, _+_, _≤_, _<_}
+use Prim.Native.Nat.{ℕ, zero, suc, _+_, _<_}
 use native.Mathlib.Omega.{arith}
 use lib.Dec.{eqb, ltb}
 use lib.ListN.{length, length-append}
 use borrow.Author.Tests.{ltb-true, ltb-false, ne-eqb}
-use Rattle.base.specs.Words.{every}
 use Rattle.base.proofs.Bools.{known, clash}
 use Rattle.base.proofs.Numbers.{every-at}
 use Rattle.text.specs.Decimal.{decimal}
@@ -18,7 +17,6 @@ use Rattle.image.specs.Instruction.{byteOf, instructionsOf, instructionGood, pl
 use Rattle.image.specs.Image.{countOf, ruleByte, partOf, codeGood, refusalOf}
 use Rattle.image.proofs.Laws.{accepted, few-programs, lies, part-short}
 use Rattle.writer.specs.Picked.{pick, picked, allOf}
-use Rattle.sheet.specs.declared.Line.{Line}
 use Rattle.sheet.specs.declared.Line.the-variants as line
 use Rattle.sheet.specs.Sheet.{operations, sheetText}
 use Rattle.from_image.specs.FromImage.{instructionAt, firstLines, programLines, programsLines, linesFor, sheetOfImage}
@@ -61,7 +59,7 @@ programs-texts image (suc n) =
 
 -- ---- an instruction that is good has a name
 
-good-named : (op a b c i m : ℕ) → instructionGood op a b c i m ≡ true → op < operations
+pub good-named : (op a b c i m : ℕ) → instructionGood op a b c i m ≡ true → op < operations
 unfolding instructionGood
 good-named op a b c i m h = go (known (ltb op operations))
   where

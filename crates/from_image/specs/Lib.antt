@@ -1,3 +1,4 @@
 pub mod FromImage
+pub mod Longest
 pub mod Typing
 pub mod Opened

@@ -2,7 +2,7 @@
 ghost use mathlib.Core.Path.{_≡_};
 ghost use mathlib.Core.Bool.{true};
 ghost use mathlib.Core.List.{[], _∷_};
-ghost use Prim.Native.Nat.{_+_, _*_, _<_, _≤_};
+ghost use Prim.Native.Nat.{_*_, _<_, _≤_};
 ghost use lib.ListN.{length};
 ghost use Rattle.text.specs.Writing.{Wrote, Room};
 ghost use Rattle.image.specs.Limits.{maxInstructions};
@@ -12,7 +12,8 @@ ghost use Rattle.writer.specs.Picked.{picked};
 ghost use Rattle.sheet.specs.declared.Line.the-variants as line;
 ghost use Rattle.sheet.specs.Sheet.{operations, nameOf, sheetText};
 ghost use Rattle.from_image.specs.FromImage.{instructionAt, firstLines, programLines, programsLines, sheetOfImage, sheetOfRefusal, SheetOfSays};
-ghost use Rattle.from_image.specs.Typing.{Good, Programs};
+ghost use Rattle.from_image.specs.Longest.{longestSheet};
+ghost use Rattle.from_image.specs.Typing.{Good, Programs, mostName, mostLine, mostLines};
 
 // ---- writing
 
@@ -123,7 +124,7 @@ const RULE_LINE: usize = 6;
 // How many bytes an operation's name has.
 fn name_length(op: u8) -> usize
     requires { ⌜ op < operations ⌝ }
-    ensures { λ r. ⌜ (r ≡ length (nameOf op)) × (r ≤ 9) ⌝ }
+    ensures { λ r. ⌜ (r ≡ length (nameOf op)) × (r ≤ mostName) ⌝ }
 {
     sheet::name_of(op as usize).length
 }
@@ -131,7 +132,7 @@ fn name_length(op: u8) -> usize
 // How many bytes an instruction's line has: its name, three numbers with a space before each, and the newline.
 fn instruction_length(i: sheet::Instruction) -> usize
     requires { ⌜ i .op < operations ⌝ }
-    ensures { λ r. ⌜ (r ≡ length (sheetText (line.Instruction i ∷ []))) × (r ≤ 22) ⌝ }
+    ensures { λ r. ⌜ (r ≡ length (sheetText (line.Instruction i ∷ []))) × (r ≤ mostLine) ⌝ }
 {
     let name = name_length(i.op);
     let a = text::decimal_length(i.a as u32);
@@ -143,7 +144,7 @@ fn instruction_length(i: sheet::Instruction) -> usize
 // How many bytes the lines of a program's instructions have.
 fn instructions_length(program: &[u8]) -> usize
     requires { ⌜ Good (now program) ⌝ }
-    ensures { λ r. ⌜ (r ≡ length (sheetText (firstLines (now (program .entry)) (instructionsOf (now (program .entry)))))) × (r ≤ 22 * maxInstructions) ⌝ }
+    ensures { λ r. ⌜ (r ≡ length (sheetText (firstLines (now (program .entry)) (instructionsOf (now (program .entry)))))) × (r ≤ mostLine * maxInstructions) ⌝ }
 {
     let m = program.len() / image::Image::INSTRUCTION_BYTES;
     let mut size: usize = 0;
@@ -157,7 +158,7 @@ fn instructions_length(program: &[u8]) -> usize
 // How many bytes the lines of the first n programs have.
 fn programs_length(image: &[u8], n: usize) -> usize
     requires { ⌜ Programs (now image) n ⌝ }
-    ensures { λ r. ⌜ (r ≡ length (sheetText (programsLines (picked (λ k. true) (now (image .entry)) n)))) × (r ≤ n * (8 + 22 * maxInstructions)) ⌝ }
+    ensures { λ r. ⌜ (r ≡ length (sheetText (programsLines (picked (λ k. true) (now (image .entry)) n)))) × (r ≤ mostLines * n) ⌝ }
 {
     let mut size: usize = 0;
     for k in 0..n {
@@ -175,6 +176,28 @@ fn sheet_length(image: &[u8]) -> usize
     let rule = text::decimal_length(image::rule(image) as u32);
     let programs = programs_length(image, image::count(image));
     RULE_LINE + rule + programs
+}
+
+// ---- the longest sheet
+
+// The line of a skip with the longest name, over two registers, that goes 10 instructions on or more: "skipequal 7 7 10" and its newline. Only so many
+// instructions of the longest program stand far enough from its end for that; a skip from one of the others has a byte less, and no other line is as long.
+const FAR_LINE: usize = 17;
+
+const FAR_LINES: usize = image::Image::INSTRUCTIONS - 10;
+
+const LONGEST_PROGRAM: usize = PROGRAM_LINE
+    + FAR_LINES * FAR_LINE
+    + (image::Image::INSTRUCTIONS - FAR_LINES) * (FAR_LINE - 1);
+
+// The bytes of the longest sheet: an output that has them is never too short.
+pub const LONGEST_SHEET: usize = RULE_LINE + 1 + image::Image::PROGRAMS * LONGEST_PROGRAM;
+
+// The same as a call, whose contract holds the number to its definition.
+pub fn longest_sheet() -> usize
+    ensures { λ r. ⌜ r ≡ longestSheet ⌝ }
+{
+    LONGEST_SHEET
 }
 
 // ---- the call

@@ -1,5 +1,4 @@
 -- The four bytes lie inside the program, and the definition reads the same four. Assumes nothing.
-use mathlib.Core.Path.{refl}
 use native.Mathlib.Nat.{add-zero}
 use borrow.Author.Needs.{needs}
 use Rattle.from_image.proofs.instruction_at.Statement.{statement}

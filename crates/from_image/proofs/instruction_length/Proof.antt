@@ -1,4 +1,4 @@
--- The line's length is the sum, and a byte has at most 3 digits. Assumes nothing.
+-- The line's length is the sum; a name has at most 9 bytes, and a byte at most 3 digits. Assumes nothing.
 use Prim.Native.Nat.{_+_, _≤_}
 use native.Mathlib.Omega.{arith}
 use borrow.Author.Needs.{needs}
@@ -7,23 +7,34 @@ use Rattle.from_image.proofs.Lines.{instruction-length}
 use Rattle.from_image.proofs.instruction_length.Statement.{statement}
 use Rattle.from_image.proofs.instruction_length.Tie as tie
 
-abbrev start-of : tie.After-decimal-length3 → tie.Start
-start-of c = c .before .before .before .before .before .before .before
+-- where each part has been measured
+abbrev second-of : tie.After-decimal-length3 → tie.After-decimal-length2
+second-of c = c .before .before
+
+abbrev first-of : tie.After-decimal-length3 → tie.After-decimal-length
+first-of c = second-of c .before .before
+
+abbrev name-of : tie.After-decimal-length3 → tie.After-name-length
+name-of c = first-of c .before .before
 
 -- what is added up is small
-few : (c : tie.After-decimal-length3) → c .before .before .before .before .before .before .name-length .result
-    + c .before .before .before .before .decimal-length .result
-    + c .before .before .decimal-length2 .result
-    + c .decimal-length3 .result
-    ≤ 18
+few : (c : tie.After-decimal-length3)
+    → name-of c .name-length .result + first-of c .decimal-length .result + second-of c .decimal-length2 .result + c .decimal-length3 .result ≤ 18
 few c =
-    let i = start-of c .args .i in
-    omega (arith, byte-short (i .a) (omega arith), byte-short (i .b) (omega arith), byte-short (i .c) (omega arith), c .before .before .before .before .before .before .name-length .ensures .1, c .before .before .before .before .decimal-length .ensures, c .before .before .decimal-length2 .ensures, c .decimal-length3 .ensures)
+    let i = name-of c .before .args .i in
+    let a = byte-short (i .a) (omega arith) in
+    let b = byte-short (i .b) (omega arith) in
+    let c′ = byte-short (i .c) (omega arith) in
+    omega
+    (arith, name-of c .name-length .ensures, first-of c .decimal-length .ensures, second-of c .decimal-length2 .ensures, c .decimal-length3 .ensures)
 
 returns : tie.Need-returns
 returns c =
-    let i = start-of c .args .i in
-    (omega (arith, instruction-length i, c .before .before .before .before .before .before .name-length .ensures .0, c .before .before .before .before .decimal-length .ensures, c .before .before .decimal-length2 .ensures, c .decimal-length3 .ensures), omega (arith, few c))
+    let e = instruction-length (name-of c .before .args .i) in (
+      omega
+          (arith, e, name-of c .name-length .ensures, first-of c .decimal-length .ensures, second-of c .decimal-length2 .ensures, c .decimal-length3 .ensures),
+      omega (arith, few c),
+    )
 
 pub instruction-length-spec : {M : Type 1} → statement M
 instruction-length-spec =

@@ -1,4 +1,4 @@
--- The loop's invariant: `size` is the length of the lines below i, each of which has at most 22 bytes. The measure is what is left of them.
+-- The loop's invariant: `size` is the length of the lines below i, each of which is short. The measure is what is left of them.
 -- Assumes nothing.
 use mathlib.Core.Path.{_≡_, ap}
 use Prim.Native.Nat.{_*_, _≤_, _-_}
@@ -8,12 +8,13 @@ use borrow.Author.Needs.{needs}
 use Rattle.text.specs.Filled.{texts}
 use Rattle.text.proofs.Fillings.{texts-none, length-texts}
 use Rattle.image.specs.Instruction.{instructionsOf}
+use Rattle.from_image.specs.Typing.{mostLine}
 use Rattle.from_image.proofs.Sheets.{instructionText, first-texts, named-at}
 use Rattle.from_image.proofs.instructions_length.Statement.{statement}
 use Rattle.from_image.proofs.instructions_length.Tie as tie
 
 abbrev Inv-loop : tie.InvT-loop
-Inv-loop program m size₀ i₀ size i = (i ≤ m) × (size ≡ length (texts (instructionText program) i)) × (size ≤ 22 * i)
+Inv-loop program m size₀ i₀ size i = (i ≤ m) × (size ≡ length (texts (instructionText program) i)) × (size ≤ mostLine * i)
 
 abbrev μ-loop : tie.MeasureT-loop
 μ-loop program m size₀ i₀ size i = m - i

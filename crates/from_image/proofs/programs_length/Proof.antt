@@ -1,20 +1,20 @@
--- The loop's invariant: `size` is the length of the lines of the programs below k, each of which has at most 712 bytes. The measure is what is left of n.
+-- The loop's invariant: `size` is the length of the lines of the programs below k, each of which is short. The measure is what is left of n.
 -- Assumes nothing.
 use mathlib.Core.Path.{_≡_, ap}
-use Prim.Native.Nat.{_+_, _*_, _≤_, _-_}
+use Prim.Native.Nat.{_*_, _≤_, _-_}
 use native.Mathlib.Omega.{arith}
 use lib.ListN.{length}
 use borrow.Author.Needs.{needs}
 use Rattle.text.specs.Filled.{texts}
 use Rattle.text.proofs.Fillings.{texts-none, length-texts}
-use Rattle.image.specs.Limits.{maxInstructions}
 use Rattle.image.specs.Image.{partOf}
+use Rattle.from_image.specs.Typing.{mostLines}
 use Rattle.from_image.proofs.Sheets.{programText, programs-texts, length-program}
 use Rattle.from_image.proofs.programs_length.Statement.{statement}
 use Rattle.from_image.proofs.programs_length.Tie as tie
 
 abbrev Inv-loop : tie.InvT-loop
-Inv-loop image n size₀ k₀ size k = (k ≤ n) × (size ≡ length (texts (programText image) k)) × (size ≤ k * (8 + 22 * maxInstructions))
+Inv-loop image n size₀ k₀ size k = (k ≤ n) × (size ≡ length (texts (programText image) k)) × (size ≤ mostLines * k)
 
 abbrev μ-loop : tie.MeasureT-loop
 μ-loop image n size₀ k₀ size k = n - k

@@ -1,5 +1,5 @@
 -- The loop's invariant: the lines of the instructions below i stand there. The measure is what is left of them. Assumes nothing.
-use mathlib.Core.Path.{_≡_, ap}
+use mathlib.Core.Path.{_≡_}
 use Prim.Native.Nat.{_≤_, _-_}
 use native.Mathlib.Omega.{arith}
 use borrow.Author.Needs.{needs}
