@@ -1,161 +1,204 @@
-// What is said of a program that has ended (document 02, ask 3): a line that a script can read, and behind it why, in words.
-use output::print;
-use output::print_number;
-use output::print_with;
+// What is said of a program that has ended (document 02, ask 3): a line that a script can read, and behind it why, in words. In each text a # is the next of
+// the numbers behind it.
+ghost use mathlib.Core.List.{_++_};
+ghost use Rattle.text.specs.Filled.{filled};
+ghost use Rattle.text.specs.Writing.{Wrote, Room};
+ghost use Rattle.sentences.specs.Sentences.{free, turned, waw, raw, rawWithWar, moreBatches, again, rejected, loadFault, storeFault, refusedLine};
 
-// A cause, as a script reads it.
-fn print_cause(cause: causes::Cause) {
-    print_with(b" cell ", cause.cell as u64);
-    print_with(b" program ", cause.program as u64);
-}
+// The most bytes of what is said of one program, where each number has at most 10 digits: the line and the words of reason 3, and behind them what comes of
+// the program.
+pub const LONGEST: usize = 52 + 199 + 10 * 13 + 103 + 10 * 2;
 
-// An arrow between two programs: the first has to run after the second.
-fn print_arrow(after: u64, before: u64) {
-    print_number(after);
-    print_with(b" -> ", before);
-}
-
-// RAW in words, up to what the earlier program does.
-fn print_old_read(cause: causes::Cause) {
-    print_with(b"  It read cell ", cause.cell as u64);
-    print(b" as it was when the batch was opened");
-    print_with(b", while program ", cause.program as u64);
+// Two texts, one behind the other: a script's line, and the words.
+fn put_both(
+    out: &mut [u8],
+    at: usize,
+    line: &[u8],
+    numbers: &[u32],
+    words: &[u8],
+    others: &[u32],
+) -> usize
+    requires { ⌜ Room (now out) at (filled (now line) (now numbers) ++ filled (now words) (now others)) ⌝ }
+    ensures { λ r. ⌜ Wrote (now (out .entry)) at (filled (now (line .entry)) (now (numbers .entry)) ++ filled (now (words .entry)) (now (others .entry))) (now (out .exit)) r ⌝ }
+{
+    let next = text::put_filled(out, at, line, numbers);
+    text::put_filled(out, next, words, others)
 }
 
 // A committed program without RAW.
-pub fn print_free(number: usize) {
-    print_number(number as u64);
-    print(b" committed\n  No earlier program stores a cell that it reads or stores");
-    print(b", so its stores are in the table.\n");
+pub fn put_free(out: &mut [u8], at: usize, number: u32) -> usize
+    requires { ⌜ Room (now out) at (free number) ⌝ }
+    ensures { λ r. ⌜ Wrote (now (out .entry)) at (free number) (now (out .exit)) r ⌝ }
+{
+    put_both(
+        out,
+        at,
+        b"# committed\n",
+        &[number],
+        b"  No earlier program stores a cell that it reads or stores, so its stores are in the table.\n",
+        &[],
+    )
 }
 
 // A committed program with RAW: it counts as if it had run before the one that stores what it read.
-pub fn print_turned(number: usize, cause: causes::Cause) {
-    print_number(number as u64);
-    print(b" committed\n");
-    print_old_read(cause);
-    print_with(
-        b" stores it,\n  so it comes before program ",
-        cause.program as u64,
-    );
-    print(b" (");
-    print_arrow(cause.program as u64, number as u64);
-    print(b"), and its stores are in the table.\n");
+pub fn put_turned(out: &mut [u8], at: usize, number: u32, cause: causes::Cause) -> usize
+    requires { ⌜ Room (now out) at (turned number cause) ⌝ }
+    ensures { λ r. ⌜ Wrote (now (out .entry)) at (turned number cause) (now (out .exit)) r ⌝ }
+{
+    put_both(
+        out,
+        at,
+        b"# committed\n",
+        &[number],
+        b"  It read cell # as it was when the batch was opened, while program # stores it,\n  \
+          so it comes before program # (# -> #), and its stores are in the table.\n",
+        &[
+            cause.cell,
+            cause.program,
+            cause.program,
+            cause.program,
+            number,
+        ],
+    )
 }
 
 // A program that was carried for reason 1.
-pub fn print_waw(number: usize, cause: causes::Cause) {
-    print_number(number as u64);
-    print(b" carried waw");
-    print_cause(cause);
-    print_with(b"\n  It stores cell ", cause.cell as u64);
-    print_with(b", and so does program ", cause.program as u64);
-    print(b", which comes first: the two cannot both count in one batch.\n");
+pub fn put_waw(out: &mut [u8], at: usize, number: u32, cause: causes::Cause) -> usize
+    requires { ⌜ Room (now out) at (waw number cause) ⌝ }
+    ensures { λ r. ⌜ Wrote (now (out .entry)) at (waw number cause) (now (out .exit)) r ⌝ }
+{
+    put_both(
+        out,
+        at,
+        b"# carried waw cell # program #\n",
+        &[number, cause.cell, cause.program],
+        b"  It stores cell #, and so does program #, which comes first: the two cannot both count in one batch.\n",
+        &[cause.cell, cause.program],
+    )
 }
 
 // A program that was carried for reason 2.
-pub fn print_raw(number: usize, cause: causes::Cause) {
-    print_number(number as u64);
-    print(b" carried raw");
-    print_cause(cause);
-    print(b"\n");
-    print_old_read(cause);
-    print(b", which comes first, stores it.\n");
+pub fn put_raw(out: &mut [u8], at: usize, number: u32, cause: causes::Cause) -> usize
+    requires { ⌜ Room (now out) at (raw number cause) ⌝ }
+    ensures { λ r. ⌜ Wrote (now (out .entry)) at (raw number cause) (now (out .exit)) r ⌝ }
+{
+    put_both(
+        out,
+        at,
+        b"# carried raw cell # program #\n",
+        &[number, cause.cell, cause.program],
+        b"  It read cell # as it was when the batch was opened, while program #, which comes first, stores it.\n",
+        &[cause.cell, cause.program],
+    )
 }
 
-// The RAW of reason 3: the program would have to come before the one that stores what it read.
-fn print_before(number: usize, raw: causes::Cause) {
-    print_with(
-        b"  It would have to come before program ",
-        raw.program as u64,
-    );
-    print_with(b", which stores cell ", raw.cell as u64);
-    print(b" that it read as it was (RAW, ");
-    print_arrow(raw.program as u64, number as u64);
-    print(b"),\n");
-}
-
-// The WAR of reason 3: it would have to come after the one that read what it stores.
-fn print_after(number: usize, war: causes::Cause) {
-    print_with(b"  and after program ", war.program as u64);
-    print_with(b", which read cell ", war.cell as u64);
-    print(b" that it stores (WAR, ");
-    print_arrow(number as u64, war.program as u64);
-    print(b"): the two can close a circle.\n");
-}
-
-// A program that was carried for reason 3.
-pub fn print_raw_with_war(number: usize, raw: causes::Cause, war: causes::Cause) {
-    print_number(number as u64);
-    print(b" carried raw");
-    print_cause(raw);
-    print(b" war");
-    print_cause(war);
-    print(b"\n");
-    print_before(number, raw);
-    print_after(number, war);
+// A program that was carried for reason 3: it would have to come before one program and after another.
+pub fn put_raw_with_war(
+    out: &mut [u8],
+    at: usize,
+    number: u32,
+    raw: causes::Cause,
+    war: causes::Cause,
+) -> usize
+    requires { ⌜ Room (now out) at (rawWithWar number raw war) ⌝ }
+    ensures { λ r. ⌜ Wrote (now (out .entry)) at (rawWithWar number raw war) (now (out .exit)) r ⌝ }
+{
+    put_both(
+        out,
+        at,
+        b"# carried raw cell # program # war cell # program #\n",
+        &[number, raw.cell, raw.program, war.cell, war.program],
+        b"  It would have to come before program #, which stores cell # that it read as it was (RAW, # -> #),\n  \
+          and after program #, which read cell # that it stores (WAR, # -> #): the two can close a circle.\n",
+        &[
+            raw.program,
+            raw.cell,
+            raw.program,
+            number,
+            war.program,
+            war.cell,
+            number,
+            war.program,
+        ],
+    )
 }
 
 // How many batches it takes at most.
-fn print_batches(count: usize) {
-    print_number(count as u64);
-    if count == 1 {
-        print(b" more batch.\n");
-    } else {
-        print(b" more batches.\n");
+fn put_batches(out: &mut [u8], at: usize, batches: u32) -> usize
+    requires { ⌜ Room (now out) at (moreBatches batches) ⌝ }
+    ensures { λ r. ⌜ Wrote (now (out .entry)) at (moreBatches batches) (now (out .exit)) r ⌝ }
+{
+    if batches == 1 {
+        return text::put_filled(out, at, b"# more batch.\n", &[batches]);
     }
+    text::put_filled(out, at, b"# more batches.\n", &[batches])
 }
 
 // What comes of a carried program: its number in the next batch, and within how many batches it ends.
-pub fn print_again(place: usize, batches: usize) {
-    print_with(
-        b"  Its reservations stay; it runs again in the next batch, as number ",
-        place as u64,
+pub fn put_again(out: &mut [u8], at: usize, place: u32, batches: u32) -> usize
+    requires { ⌜ Room (now out) at (again place batches) ⌝ }
+    ensures { λ r. ⌜ Wrote (now (out .entry)) at (again place batches) (now (out .exit)) r ⌝ }
+{
+    let next = text::put_filled(
+        out,
+        at,
+        b"  Its reservations stay; it runs again in the next batch, as number #, and ends within ",
+        &[place],
     );
-    print(b", and ends within ");
-    print_batches(batches);
+    put_batches(out, next, batches)
 }
 
 // A program that rejected.
-pub fn print_rejected(number: usize, code: u32) {
-    print_number(number as u64);
-    print_with(b" rejected code ", code as u64);
-    print_with(b"\n  It rejected with code ", code as u64);
-    print(b", so it stores nothing, reserves nothing and is not carried.\n");
-}
-
-// A program that faulted: a script's word for the kind, where it faulted, and what it does there.
-fn print_fault(number: usize, word: &[u8], at: u32, does: &[u8], last: usize) {
-    print_number(number as u64);
-    print(word);
-    print_with(b" at ", at as u64);
-    print_with(b"\n  Its instruction ", at as u64);
-    print(does);
-    print_with(
-        b" a cell outside the table, whose last cell is ",
-        last as u64,
-    );
-    print(b".\n  It stores nothing, reserves nothing and is not carried.\n");
+pub fn put_rejected(out: &mut [u8], at: usize, number: u32, code: u32) -> usize
+    requires { ⌜ Room (now out) at (rejected number code) ⌝ }
+    ensures { λ r. ⌜ Wrote (now (out .entry)) at (rejected number code) (now (out .exit)) r ⌝ }
+{
+    put_both(
+        out,
+        at,
+        b"# rejected code #\n",
+        &[number, code],
+        b"  It rejected with code #, so it stores nothing, reserves nothing and is not carried.\n",
+        &[code],
+    )
 }
 
 // A program that faulted at a load.
-pub fn print_load_fault(number: usize, at: u32, last: usize) {
-    print_fault(
-        number,
-        b" faulted load",
+pub fn put_load_fault(out: &mut [u8], at: usize, number: u32, place: u32, last: u32) -> usize
+    requires { ⌜ Room (now out) at (loadFault number place last) ⌝ }
+    ensures { λ r. ⌜ Wrote (now (out .entry)) at (loadFault number place last) (now (out .exit)) r ⌝ }
+{
+    put_both(
+        out,
         at,
-        b", counted from 0, loads",
-        last,
-    );
+        b"# faulted load at #\n",
+        &[number, place],
+        b"  Its instruction #, counted from 0, loads a cell outside the table, whose last cell is #.\n  \
+          It stores nothing, reserves nothing and is not carried.\n",
+        &[place, last],
+    )
 }
 
 // A program that faulted at a store.
-pub fn print_store_fault(number: usize, at: u32, last: usize) {
-    print_fault(
-        number,
-        b" faulted store",
+pub fn put_store_fault(out: &mut [u8], at: usize, number: u32, place: u32, last: u32) -> usize
+    requires { ⌜ Room (now out) at (storeFault number place last) ⌝ }
+    ensures { λ r. ⌜ Wrote (now (out .entry)) at (storeFault number place last) (now (out .exit)) r ⌝ }
+{
+    put_both(
+        out,
         at,
-        b", counted from 0, stores to",
-        last,
-    );
+        b"# faulted store at #\n",
+        &[number, place],
+        b"  Its instruction #, counted from 0, stores to a cell outside the table, whose last cell is #.\n  \
+          It stores nothing, reserves nothing and is not carried.\n",
+        &[place, last],
+    )
+}
+
+// Where the library refuses an answer, the refusal's line is all that is said.
+pub fn put_refused(out: &mut [u8], at: usize, refusal: image::Refusal) -> usize
+    requires { ⌜ Room (now out) at (refusedLine (refusal .number)) ⌝ }
+    ensures { λ r. ⌜ Wrote (now (out .entry)) at (refusedLine (refusal .number)) (now (out .exit)) r ⌝ }
+{
+    text::put_filled(out, at, b"refused #\n", &[refusal.number])
 }
