@@ -1,1 +1,2 @@
-pub mod Asked
+pub mod Reasons
+pub mod Opened

@@ -1,117 +1,143 @@
 // The page of the program `why` (document 02, ask 3): why each program of a settled batch ended as it did. What is asked of the library stands here, what
 // is then said in `sentences`.
-ghost use Prim.Native.Nat.{_≤_, _<_};
+ghost use mathlib.Core.Path.{_≡_};
+ghost use mathlib.Core.Bool.{cond};
+ghost use Prim.Native.Nat.{_+_, _≤_, _<_};
 ghost use lib.ListN.{length};
-ghost use Rattle.reasons.specs.Asked.{Asked};
-use output::print_refused;
+ghost use Rattle.text.specs.Writing.{Wrote, Room};
+ghost use Rattle.image.specs.Limits.{maxPrograms, maxCells};
+ghost use Rattle.image.specs.Image.{countOf};
+ghost use Rattle.slot.specs.declared.Group.the-variants.{Carried};
+ghost use Rattle.slot.specs.States.{isIn};
+ghost use Rattle.area.specs.Checks.{Measured, HasSlot};
+ghost use Rattle.reasons.specs.Reasons.{committedText, carriedText, faultedText, placeOf, programText, reasonsText, longestPage};
 
-// A committed program.
-fn print_committed(image: &[u8], table: &[u32], area: &[u32], number: usize) {
-    match sheetbendle::comes_before(image, table, area, number) {
-        sheetbendle::Before::Refused(refusal) => print_refused(refusal),
-        sheetbendle::Before::Nobody => sentences::print_free(number),
-        sheetbendle::Before::Program(cause) => sentences::print_turned(number, cause),
+// The most bytes of a page.
+pub const PAGE: usize = image::Image::PROGRAMS * sentences::LONGEST;
+
+// Room for a page.
+pub fn page_room() -> [u8; PAGE]
+    ensures { λ r. ⌜ longestPage ≡ length r ⌝ }
+{
+    [0; PAGE]
+}
+
+// A committed program, by before whom it comes.
+fn put_committed(out: &mut [u8], at: usize, answer: causes::Before, number: u32) -> usize
+    requires { ⌜ Room (now out) at (committedText answer number) ⌝ }
+    ensures { λ r. ⌜ Wrote (now (out .entry)) at (committedText answer number) (now (out .exit)) r ⌝ }
+{
+    match answer {
+        causes::Before::Refused(refusal) => sentences::put_refused(out, at, refusal),
+        causes::Before::Nobody => sentences::put_free(out, at, number),
+        causes::Before::Program(cause) => sentences::put_turned(out, at, number, cause),
     }
 }
 
-// 1 for a carried program, else 0.
-fn carried(state: u32) -> usize
-    ensures { λ r. ⌜ r ≤ 1 ⌝ }
+// A carried program, by why it was carried: in place p of the next batch it ends within p + 1 batches.
+fn put_carried(out: &mut [u8], at: usize, answer: causes::Why, number: u32, place: u32) -> usize
+    requires { ⌜ (place < maxPrograms) × Room (now out) at (carriedText answer number place) ⌝ }
+    ensures { λ r. ⌜ Wrote (now (out .entry)) at (carriedText answer number place) (now (out .exit)) r ⌝ }
 {
-    if state == sheetbendle::CARRIED { 1 } else { 0 }
+    match answer {
+        causes::Why::Refused(refusal) => sentences::put_refused(out, at, refusal),
+        causes::Why::Waw(cause) => {
+            let next = sentences::put_waw(out, at, number, cause);
+            sentences::put_again(out, next, place, place + 1)
+        }
+        causes::Why::Raw(cause) => {
+            let next = sentences::put_raw(out, at, number, cause);
+            sentences::put_again(out, next, place, place + 1)
+        }
+        causes::Why::RawWithWar(raw, war) => {
+            let next = sentences::put_raw_with_war(out, at, number, raw, war);
+            sentences::put_again(out, next, place, place + 1)
+        }
+    }
 }
 
-// How many of the programs before this one are carried: its number in the next batch, if it is carried.
-fn carried_before(states: &[u32], number: usize) -> usize
-    requires { ⌜ number ≤ length (now states) ⌝ }
-    ensures { λ r. ⌜ r ≤ number ⌝ }
+// A program that faulted on a table of so many cells, by its detail; one that no fault leaves is refused.
+fn put_faulted(out: &mut [u8], at: usize, number: u32, detail: u32, cells: usize) -> usize
+    requires { ⌜ (0 < cells) × (cells ≤ maxCells) × Room (now out) at (faultedText number detail cells) ⌝ }
+    ensures { λ r. ⌜ Wrote (now (out .entry)) at (faultedText number detail cells) (now (out .exit)) r ⌝ }
 {
-    let mut count = 0;
-    for k in 0..number {
-        count += carried(states[k]);
+    let kind = detail / machine::KIND_UNIT;
+    let place = detail % machine::KIND_UNIT;
+    let last = (cells - 1) as u32;
+    if kind == machine::LOAD_FAULT as u32 {
+        return sentences::put_load_fault(out, at, number, place, last);
+    }
+    if kind == machine::STORE_FAULT as u32 {
+        return sentences::put_store_fault(out, at, number, place, last);
+    }
+    sentences::put_refused(out, at, image::Refusal::REASON)
+}
+
+// One more than so many, if the state is that of a carried program.
+fn with_carried(count: u32, state: u32) -> u32
+    requires { ⌜ count < maxPrograms ⌝ }
+    ensures { λ r. ⌜ r ≡ cond (isIn Carried state) 1 0 + count ⌝ }
+{
+    if slot::is_in(slot::Group::Carried, state) {
+        return count + 1;
     }
     count
 }
 
-// What comes of a carried program: in place p of the next batch it ends within p + 1 batches.
-fn print_again(states: &[u32], number: usize)
-    requires { ⌜ number < length (now states) ⌝ }
+// How many of the programs before this one are carried: its number in the next batch, if it is carried.
+fn place_of(area: &[u32], cells: usize, number: usize) -> u32
+    requires { ⌜ HasSlot cells number (now area) ⌝ }
+    ensures { λ r. ⌜ r ≡ placeOf cells number (now (area .entry)) ⌝ }
 {
-    let place = carried_before(states, number);
-    sentences::print_again(place, place + 1);
-}
-
-// A carried program.
-fn print_carried(image: &[u8], table: &[u32], area: &[u32], states: &[u32], number: usize)
-    requires { ⌜ number < length (now states) ⌝ }
-{
-    match sheetbendle::why(image, table, area, number) {
-        sheetbendle::Why::Refused(refusal) => print_refused(refusal),
-        sheetbendle::Why::Waw(cause) => {
-            sentences::print_waw(number, cause);
-            print_again(states, number);
-        }
-        sheetbendle::Why::Raw(cause) => {
-            sentences::print_raw(number, cause);
-            print_again(states, number);
-        }
-        sheetbendle::Why::RawWithWar(raw, war) => {
-            sentences::print_raw_with_war(number, raw, war);
-            print_again(states, number);
-        }
+    let mut count: u32 = 0;
+    for k in 0..number {
+        count = with_carried(count, area::state(area, cells, k));
     }
-}
-
-// A program that faulted; a detail that no fault leaves is refused.
-fn print_faulted(number: usize, detail: u32, cells: usize)
-    requires { ⌜ 0 < cells ⌝ }
-{
-    let kind = detail / sheetbendle::KIND_UNIT;
-    let at = detail % sheetbendle::KIND_UNIT;
-    if kind == sheetbendle::LOAD_FAULT as u32 {
-        sentences::print_load_fault(number, at, cells - 1);
-    } else if kind == sheetbendle::STORE_FAULT as u32 {
-        sentences::print_store_fault(number, at, cells - 1);
-    } else {
-        print_refused(sheetbendle::Refusal::REASON);
-    }
+    count
 }
 
 // One program, by the state that it ended in; one that has not ended is refused.
-fn print_program(
+fn put_program(
+    out: &mut [u8],
+    at: usize,
     image: &[u8],
     table: &[u32],
     area: &[u32],
-    states: &[u32],
-    details: &[u32],
     number: usize,
-)
-    requires { ⌜ Asked (now table) (now states) (now details) × (number < length (now states)) ⌝ }
+) -> usize
+    requires { ⌜ HasSlot (length (now table)) number (now area) × (0 < length (now table)) × Room (now out) at (programText (now image) (now table) (now area) number) ⌝ }
+    ensures { λ r. ⌜ Wrote (now (out .entry)) at (programText (now (image .entry)) (now (table .entry)) (now (area .entry)) number) (now (out .exit)) r ⌝ }
 {
-    let state = states[number];
-    let detail = details[number];
-    if state == sheetbendle::REJECTED {
-        sentences::print_rejected(number, detail);
-    } else if state == sheetbendle::FAULTED {
-        print_faulted(number, detail, table.len());
-    } else if state == sheetbendle::COMMITTED {
-        print_committed(image, table, area, number);
-    } else if state == sheetbendle::CARRIED {
-        print_carried(image, table, area, states, number);
-    } else {
-        print_refused(sheetbendle::Refusal::STATE);
+    let cells = table.len();
+    let state = area::state(area, cells, number);
+    let detail = area::detail(area, cells, number);
+    let shown = number as u32;
+    if state == slot::REJECTED {
+        return sentences::put_rejected(out, at, shown, detail);
     }
+    if state == slot::FAULTED {
+        return put_faulted(out, at, shown, detail, cells);
+    }
+    if slot::is_in(slot::Group::Committed, state) {
+        let answer = causes::comes_before(image, table, area, number);
+        return put_committed(out, at, answer, shown);
+    }
+    if slot::is_in(slot::Group::Carried, state) {
+        let answer = causes::why(image, table, area, number);
+        return put_carried(out, at, answer, shown, place_of(area, cells, number));
+    }
+    sentences::put_refused(out, at, image::Refusal::STATE)
 }
 
-// Every program of a settled batch, in number order; where there is none, standard error says so.
-pub fn print_reasons(image: &[u8], table: &[u32], area: &[u32], states: &[u32], details: &[u32])
-    requires { ⌜ Asked (now table) (now states) (now details) ⌝ }
+// Every program of a settled batch, in number order.
+pub fn put_reasons(out: &mut [u8], at: usize, image: &[u8], table: &[u32], area: &[u32]) -> usize
+    requires { ⌜ Measured (length (now table)) (countOf (now image)) (now area) × (0 < length (now table)) × Room (now out) at (reasonsText (now image) (now table) (now area)) ⌝ }
+    ensures { λ r. ⌜ Wrote (now (out .entry)) at (reasonsText (now (image .entry)) (now (table .entry)) (now (area .entry))) (now (out .exit)) r ⌝ }
 {
-    let n = states.len();
-    if n == 0 {
-        output::complain(b"why", b"the batch has no programs");
-    }
+    let n = image::count(image);
+    let mut next = at;
     for k in 0..n {
-        print_program(image, table, area, states, details, k);
+        next = put_program(out, next, image, table, area, k);
     }
+    next
 }

@@ -1,0 +1,114 @@
+-- Laws of the page: a carried program's place, what is said in each state, and one program after another. Assumes nothing.
+use Prim.Native.Nat.{ℕ, zero, suc, _+_, _≤_, _<_}
+use mathlib.Core.Path.{_≡_, refl, sym, _∙_}
+use mathlib.Core.Logic.{_⊎_, inl, inr}
+use mathlib.Core.Bool.{Bool, true, false, cond}
+use mathlib.Core.List.{List}
+use native.Mathlib.Omega.{arith}
+use native.Mathlib.Numerals.{add-one}
+use lib.Dec.{eqb}
+use lib.ListN.{length, length-append}
+use borrow.Author.Tests.{eq-eqb, ne-eqb}
+use Rattle.base.specs.Words.{count}
+use Rattle.base.proofs.Numbers.{below}
+use Rattle.base.proofs.Counts.{count-none, count-le}
+use Rattle.text.specs.Writing.{Wrote, Room}
+use Rattle.text.specs.Filled.{texts}
+use Rattle.text.proofs.Writing.{wrote-none, wrote-more}
+use Rattle.text.proofs.Fillings.{texts-none, texts-more}
+use Rattle.image.specs.Refusals as refusal
+use Rattle.image.specs.Image.{countOf}
+use Rattle.slot.specs.declared.Group.the-variants.{Committed, Carried}
+use Rattle.slot.specs.States as state
+use Rattle.slot.specs.States.{isIn}
+use Rattle.area.specs.Layout.{stateOf, detailOf, inGroup}
+use Rattle.area.specs.Checks.{HasSlot}
+use Rattle.causes.specs.declared.answers.Why.{Why}
+use Rattle.causes.specs.declared.answers.Before.{Before}
+use Rattle.causes.specs.Why.{whyAnswer, beforeAnswer}
+use Rattle.sentences.specs.Sentences.{rejected, refusedLine}
+use Rattle.reasons.specs.Reasons.{committedText, carriedText, faultedText, placeOf, programText, reasonsText}
+
+module _ (T : ℕ) (a : List ℕ) where
+  pub place-none : placeOf T 0 a ≡ 0
+  unfolding placeOf
+  place-none = count-none (inGroup Carried T a)
+
+  pub place-more : (k : ℕ) → placeOf T (k + 1) a ≡ cond (isIn Carried (stateOf T k a)) 1 0 + placeOf T k a
+  unfolding placeOf count inGroup
+  place-more k = rw (add-one k)
+
+  pub place-low : (k : ℕ) → placeOf T k a ≤ k
+  unfolding placeOf
+  place-low k = count-le (inGroup Carried T a) k
+
+-- the slots before one that lies in the area lie there too
+pub earlier-lies : {T k : ℕ} {a : List ℕ} → HasSlot T k a → (j : ℕ) → j < k → HasSlot T j a
+earlier-lies h j l = record { cells-few = h .cells-few; number-few = omega (arith, h .number-few); lies = omega (arith, h .lies) }
+
+-- ---- program k, whose state is s: which case of the definition it is
+
+module _ (image t a : List ℕ) (k s : ℕ) (e : s ≡ stateOf (length t) k a) where
+  -- what is known of the state as it was read is known of the state
+  is : (x : ℕ) → s ≡ x → eqb (stateOf (length t) k a) x ≡ true
+  is x h = eq-eqb _ _ (sym e ∙ h)
+
+  is-not : (x : ℕ) → (s ≡ x → ⊥) → eqb (stateOf (length t) k a) x ≡ false
+  is-not x h = ne-eqb _ _ (λ z. h (e ∙ z))
+
+  pub says-rejected : s ≡ state.rejected → (d : ℕ) → d ≡ detailOf (length t) k a → programText image t a k ≡ rejected k d
+  unfolding programText
+  says-rejected h d f = rw (is _ h, f)
+
+  module _ (r : s ≡ state.rejected → ⊥) where
+    pub says-faulted : s ≡ state.faulted → (d : ℕ) → d ≡ detailOf (length t) k a → programText image t a k ≡ faultedText k d (length t)
+    unfolding programText
+    says-faulted h d f = rw (is-not _ r, is _ h, f)
+
+    module _ (f : s ≡ state.faulted → ⊥) where
+      pub says-committed : isIn Committed s ≡ true → (b : Before) → b ≡ beforeAnswer image t a k → programText image t a k ≡ committedText b k
+      unfolding programText inGroup
+      says-committed h b g = rw (is-not _ r, is-not _ f, ← e, h, g)
+
+      module _ (c : isIn Committed s ≡ false) where
+        pub says-carried : isIn Carried s ≡ true → (w : Why) → w ≡ whyAnswer image t a k → (p : ℕ) → p ≡ placeOf (length t) k a
+            → programText image t a k ≡ carriedText w k p
+        unfolding programText inGroup
+        says-carried h w g p q = rw (is-not _ r, is-not _ f, ← e, c, h, g, q)
+
+        pub says-not-ended : isIn Carried s ≡ false → programText image t a k ≡ refusedLine (refusal.state .number)
+        unfolding programText inGroup
+        says-not-ended h = rw (is-not _ r, is-not _ f, ← e, c, h)
+
+-- ---- the page as far as program k: what stands there, what k needs, and what it leaves
+
+texts-grow : (f : ℕ → List ℕ) (n k : ℕ) → k < n → length (texts f k) + length (f k) ≤ length (texts f n)
+unfolding texts
+texts-grow f zero k l = absurd (omega arith)
+texts-grow f (suc n) k l = rw length-append (go (below k n l) (texts-grow f n k))
+  where
+    go : (k ≡ n) ⊎ (k < n) → (k < n → length (texts f k) + length (f k) ≤ length (texts f n))
+        → length (texts f k) + length (f k) ≤ length (texts f n) + length (f n)
+    go (inl e) grow = rw e (omega arith)
+    go (inr h) grow = omega (arith, grow h)
+
+module _ (image t a : List ℕ) where
+  pub page-none : (out : List ℕ) (at : ℕ) → Wrote out at (texts (programText image t a) 0) out at
+  page-none out at = rw texts-none (wrote-none out at)
+
+  module _ {out : List ℕ} {at : ℕ} (k : ℕ) {o : List ℕ} {r : ℕ} (room : Room out at (reasonsText image t a)) (l : k < countOf image)
+      (w : Wrote out at (texts (programText image t a) k) o r) where
+    fits-more : at + length (texts (programText image t a) k) + length (programText image t a k) ≤ length out
+    unfolding reasonsText
+    fits-more = omega (arith, room .fits, texts-grow (programText image t a) (countOf image) k l)
+
+    pub page-room : Room o r (programText image t a k)
+    page-room = record { fits = omega (arith, fits-more, w .long, w .next) }
+
+    pub page-more : {o′ : List ℕ} {r′ : ℕ} → Wrote o r (programText image t a k) o′ r′ → Wrote out at (texts (programText image t a) (k + 1)) o′ r′
+    page-more v = rw texts-more (wrote-more w v fits-more)
+
+  pub page-end : {out : List ℕ} {at : ℕ} {o : List ℕ} {r : ℕ} (k : ℕ) → k ≡ countOf image → Wrote out at (texts (programText image t a) k) o r
+      → Wrote out at (reasonsText image t a) o r
+  unfolding reasonsText
+  page-end k e w = rw e at w
