@@ -1,2 +1,4 @@
 pub mod Pages
+pub mod Short
+pub mod Unique
 pub mod Cases

@@ -1,5 +1,5 @@
 -- Laws of the page: a carried program's place, what is said in each state, and one program after another. Assumes nothing.
-use Prim.Native.Nat.{ℕ, zero, suc, _+_, _≤_, _<_}
+use Prim.Native.Nat.{ℕ, zero, suc, _+_, _-_, _*_, _/_, _%_, _≤_, _<_}
 use mathlib.Core.Path.{_≡_, refl, sym, _∙_}
 use mathlib.Core.Logic.{_⊎_, inl, inr}
 use mathlib.Core.Bool.{Bool, true, false, cond}
@@ -26,6 +26,9 @@ use Rattle.area.specs.Checks.{HasSlot}
 use Rattle.causes.specs.declared.answers.Why.{Why}
 use Rattle.causes.specs.declared.answers.Before.{Before}
 use Rattle.causes.specs.Why.{whyAnswer, beforeAnswer}
+use Rattle.machine.specs.declared.Run.the-variants.{Faulted}
+use Rattle.machine.specs.Runs.{loadFault, storeFault, detailOfRun}
+use Rattle.sentences.specs.Sentences as sentences
 use Rattle.sentences.specs.Sentences.{rejected, refusedLine}
 use Rattle.reasons.specs.Reasons.{committedText, carriedText, faultedText, placeOf, programText, reasonsText}
 
@@ -112,3 +115,20 @@ module _ (image t a : List ℕ) where
       → Wrote out at (reasonsText image t a) o r
   unfolding reasonsText
   page-end k e w = rw e at w
+
+-- ---- the detail that a fault leaves is read back: its kind, and where it was
+
+module _ (k at T : ℕ) (few : at < 256) where
+  pub reads-load : faultedText k (detailOfRun (Faulted loadFault at)) T ≡ sentences.loadFault k at (T - 1)
+  unfolding faultedText
+  reads-load =
+      let q : (256 * loadFault + at) / 256 ≡ loadFault = omega arith in
+      let r : (256 * loadFault + at) % 256 ≡ at = omega arith in
+      rw (q, r)
+
+  pub reads-store : faultedText k (detailOfRun (Faulted storeFault at)) T ≡ sentences.storeFault k at (T - 1)
+  unfolding faultedText
+  reads-store =
+      let q : (256 * storeFault + at) / 256 ≡ storeFault = omega arith in
+      let r : (256 * storeFault + at) % 256 ≡ at = omega arith in
+      rw (q, r)

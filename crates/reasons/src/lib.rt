@@ -3,7 +3,7 @@
 ghost use mathlib.Core.Path.{_≡_};
 ghost use mathlib.Core.Bool.{cond};
 ghost use Prim.Native.Nat.{_+_, _≤_, _<_};
-ghost use lib.ListN.{length};
+ghost use lib.ListN.{length, replicate};
 ghost use Rattle.text.specs.Writing.{Wrote, Room};
 ghost use Rattle.image.specs.Limits.{maxPrograms, maxCells};
 ghost use Rattle.image.specs.Image.{countOf};
@@ -17,7 +17,7 @@ pub const PAGE: usize = image::Image::PROGRAMS * sentences::LONGEST;
 
 // Room for a page.
 pub fn page_room() -> [u8; PAGE]
-    ensures { λ r. ⌜ longestPage ≡ length r ⌝ }
+    ensures { λ r. ⌜ (longestPage ≡ length r) × (r ≡ replicate longestPage 0) ⌝ }
 {
     [0; PAGE]
 }
