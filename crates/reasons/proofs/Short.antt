@@ -1,8 +1,7 @@
 -- Every page is short: at most `longest` bytes for each of at most 64 programs, in an area whose words have 32 bits. Assumes nothing.
-use Prim.Native.Nat.{ℕ, _+_, _-_, _*_, _/_, _%_, _≤_, _<_}
-use mathlib.Core.Path.{_≡_}
+use Prim.Native.Nat.{ℕ, _+_, _-_, _/_, _%_, _≤_, _<_}
 use mathlib.Core.Bool.{Bool, true, false, cond}
-use mathlib.Core.List.{List, _++_}
+use mathlib.Core.List.{List}
 use native.Mathlib.Omega.{arith}
 use lib.Dec.{eqb}
 use lib.ListN.{length, getD, length-append}
@@ -36,10 +35,10 @@ use Rattle.causes.specs.declared.answers.Why.the-variants as why
 use Rattle.causes.specs.declared.answers.Before.{Before}
 use Rattle.causes.specs.declared.answers.Before.the-variants as before
 use Rattle.causes.specs.Why.{explained, explainedBy, askRefusal, carriedRefusal, whyRefusal, whyAnswer, beforeOf, beforeAnswer}
-use Rattle.sentences.specs.Sentences.{longest}
+use Rattle.sentences.specs.Sentences.{longestAgain, longest}
 use Rattle.sentences.proofs.Lengths.{Small, SmallCause, refused-short, free-short, turned-short, waw-short, raw-short, raw-with-war-short, again-short}
 use Rattle.sentences.proofs.Lengths.{rejected-short, load-fault-short, store-fault-short}
-use Rattle.reasons.specs.Reasons.{committedText, carriedText, faultedText, placeOf, programText, reasonsText, longestPage}
+use Rattle.reasons.specs.Reasons.{committedText, againText, carriedText, faultedText, programText, reasonsText, longestPage}
 use Rattle.reasons.proofs.Pages.{place-low}
 
 -- ---- a refusal's number
@@ -122,13 +121,17 @@ committed-short (before.Refused r) k s h = omega (arith, refused-short (r .numbe
 committed-short before.Nobody k s h = omega (arith, free-short k h)
 committed-short (before.Program c) k s h = omega (arith, turned-short k h c s)
 
+came-again-short : (p : ℕ) → p < maxPrograms → length (againText p) ≤ longestAgain
+unfolding againText
+came-again-short p l = again-short p _ (omega arith) (omega arith)
+
 carried-short : (w : Why) (k p : ℕ) → SmallWhy w → Small k → p < maxPrograms → length (carriedText w k p) ≤ longest
 unfolding carriedText
 carried-short (why.Refused r) k p s h l = omega (arith, refused-short (r .number) (omega arith))
-carried-short (why.Waw c) k p s h l = rw length-append (omega (arith, waw-short k h c s, again-short p (p + 1) (omega arith) (omega arith)))
-carried-short (why.Raw c) k p s h l = rw length-append (omega (arith, raw-short k h c s, again-short p (p + 1) (omega arith) (omega arith)))
+carried-short (why.Waw c) k p s h l = rw length-append (omega (arith, waw-short k h c s, came-again-short p l))
+carried-short (why.Raw c) k p s h l = rw length-append (omega (arith, raw-short k h c s, came-again-short p l))
 carried-short (why.RawWithWar c d) k p s h l =
-    rw length-append (omega (arith, raw-with-war-short k h c (s .0) d (s .1), again-short p (p + 1) (omega arith) (omega arith)))
+    rw length-append (omega (arith, raw-with-war-short k h c (s .0) d (s .1), came-again-short p l))
 
 -- one of two
 either-short : (b : Bool) (x y : List ℕ) → length x ≤ longest → length y ≤ longest → length (cond b x y) ≤ longest

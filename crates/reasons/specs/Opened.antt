@@ -2,8 +2,8 @@
 use Rattle.base.specs.Words.{count}
 use Rattle.causes.specs.Opened as causes
 use Rattle.sentences.specs.Opened as sentences
-use Rattle.reasons.specs.Reasons.{committedText, carriedText, faultedText, placeOf, programText, reasonsText}
+use Rattle.reasons.specs.Reasons.{committedText, againText, carriedText, faultedText, placeOf, programText, reasonsText}
 
 unfoldable pub opened : Unit {0}
-unfolding count causes.opened sentences.opened committedText carriedText faultedText placeOf programText reasonsText
+unfolding count causes.opened sentences.opened committedText againText carriedText faultedText placeOf programText reasonsText
 opened = tt

@@ -29,12 +29,16 @@ committedText (before.Refused r) number = refusedLine (r .number)
 committedText before.Nobody number = free number
 committedText (before.Program cause) number = turned number cause
 
--- a carried program, by why it was carried; "a program in place p (from 0) is committed, rejected or faulted within p+1 batches"
+-- "a program in place p (from 0) is committed, rejected or faulted within p+1 batches": so says the page of a carried program's place in the next batch
+unfoldable pub againText : (place : ℕ) → List ℕ
+againText place = again place (place + 1)
+
+-- a carried program, by why it was carried
 unfoldable pub carriedText : Why → (number place : ℕ) → List ℕ
 carriedText (why.Refused r) number place = refusedLine (r .number)
-carriedText (why.Waw cause) number place = waw number cause ++ again place (place + 1)
-carriedText (why.Raw cause) number place = raw number cause ++ again place (place + 1)
-carriedText (why.RawWithWar cause war) number place = rawWithWar number cause war ++ again place (place + 1)
+carriedText (why.Waw cause) number place = waw number cause ++ againText place
+carriedText (why.Raw cause) number place = raw number cause ++ againText place
+carriedText (why.RawWithWar cause war) number place = rawWithWar number cause war ++ againText place
 
 -- a faulted program of a table of T cells, by its detail, "256 × kind + instruction number"; one that no fault leaves is refused
 unfoldable pub faultedText : (number detail T : ℕ) → List ℕ

@@ -10,7 +10,7 @@ ghost use Rattle.image.specs.Image.{countOf};
 ghost use Rattle.slot.specs.declared.Group.the-variants.{Carried};
 ghost use Rattle.slot.specs.States.{isIn};
 ghost use Rattle.area.specs.Checks.{Measured, HasSlot};
-ghost use Rattle.reasons.specs.Reasons.{committedText, carriedText, faultedText, placeOf, programText, reasonsText, longestPage};
+ghost use Rattle.reasons.specs.Reasons.{committedText, againText, carriedText, faultedText, placeOf, programText, reasonsText, longestPage};
 
 // The most bytes of a page.
 pub const PAGE: usize = image::Image::PROGRAMS * sentences::LONGEST;
@@ -34,7 +34,15 @@ fn put_committed(out: &mut [u8], at: usize, answer: causes::Before, number: u32)
     }
 }
 
-// A carried program, by why it was carried: in place p of the next batch it ends within p + 1 batches.
+// What comes of a carried program: in place p of the next batch it ends within p + 1 batches.
+fn put_again(out: &mut [u8], at: usize, place: u32) -> usize
+    requires { ⌜ (place < maxPrograms) × Room (now out) at (againText place) ⌝ }
+    ensures { λ r. ⌜ Wrote (now (out .entry)) at (againText place) (now (out .exit)) r ⌝ }
+{
+    sentences::put_again(out, at, place, place + 1)
+}
+
+// A carried program, by why it was carried.
 fn put_carried(out: &mut [u8], at: usize, answer: causes::Why, number: u32, place: u32) -> usize
     requires { ⌜ (place < maxPrograms) × Room (now out) at (carriedText answer number place) ⌝ }
     ensures { λ r. ⌜ Wrote (now (out .entry)) at (carriedText answer number place) (now (out .exit)) r ⌝ }
@@ -43,15 +51,15 @@ fn put_carried(out: &mut [u8], at: usize, answer: causes::Why, number: u32, plac
         causes::Why::Refused(refusal) => sentences::put_refused(out, at, refusal),
         causes::Why::Waw(cause) => {
             let next = sentences::put_waw(out, at, number, cause);
-            sentences::put_again(out, next, place, place + 1)
+            put_again(out, next, place)
         }
         causes::Why::Raw(cause) => {
             let next = sentences::put_raw(out, at, number, cause);
-            sentences::put_again(out, next, place, place + 1)
+            put_again(out, next, place)
         }
         causes::Why::RawWithWar(raw, war) => {
             let next = sentences::put_raw_with_war(out, at, number, raw, war);
-            sentences::put_again(out, next, place, place + 1)
+            put_again(out, next, place)
         }
     }
 }

@@ -2,7 +2,7 @@
 -- Assumes nothing.
 use Prim.Native.Nat.{ℕ}
 use mathlib.Core.Path.{_≡_, refl}
-use mathlib.Core.List.{List, [], _∷_, _++_}
+use mathlib.Core.List.{[], _∷_, _++_}
 use Rattle.text.specs.Ascii.{ascii}
 use Rattle.causes.specs.declared.answers.Cause.{Cause}
 use Rattle.sentences.specs.Sentences.{free, turned, waw, raw, rawWithWar, again, rejected, loadFault, storeFault}

@@ -1,12 +1,10 @@
 -- How long a sentence is whose numbers have 32 bits: none is longer than that of reason 3. The lengths of the texts are computed. Assumes nothing.
 use Prim.Native.Nat.{ℕ, _+_, _*_, _≤_, _<_}
-use mathlib.Core.Path.{_≡_}
 use mathlib.Core.Bool.{Bool, true, false, cond}
-use mathlib.Core.List.{List, [], _∷_, _++_}
+use mathlib.Core.List.{List, _++_}
 use native.Mathlib.Omega.{arith}
 use lib.Dec.{eqb}
 use lib.ListN.{length, length-append}
-use Rattle.text.specs.Ascii.{ascii}
 use Rattle.text.specs.Filled.{filled}
 use Rattle.text.proofs.Fillings.{Words, filled-short}
 use Rattle.causes.specs.declared.answers.Cause.{Cause}
@@ -37,52 +35,48 @@ module _ (s ns : List ℕ) (h : Words ns) where
 
 pub refused-short : (r : ℕ) → Small r → length (refusedLine r) ≤ longestReason
 unfolding refusedLine
-refused-short r h = one-short _ (r ∷ []) (h, tt) longestReason (omega arith)
+refused-short r h = one-short _ _ (omega arith) longestReason (omega arith)
 
 module _ (k : ℕ) (h : Small k) where
   pub free-short : length (free k) ≤ longestReason
   unfolding free committedLine
-  free-short = both-short _ (k ∷ []) (h, tt) _ [] tt (omega arith)
+  free-short = both-short _ _ (omega arith) _ _ (omega arith) (omega arith)
 
   pub rejected-short : (code : ℕ) → Small code → length (rejected k code) ≤ longestReason
   unfolding rejected rejectedLine
-  rejected-short code g = both-short _ (k ∷ code ∷ []) (h, (g, tt)) _ (code ∷ []) (g, tt) (omega arith)
+  rejected-short code g = both-short _ _ (omega arith) _ _ (omega arith) (omega arith)
 
   module _ (place last : ℕ) (p : Small place) (l : Small last) where
     pub load-fault-short : length (loadFault k place last) ≤ longestReason
     unfolding loadFault loadFaultLine
-    load-fault-short = both-short _ (k ∷ place ∷ []) (h, (p, tt)) _ (place ∷ last ∷ []) (p, (l, tt)) (omega arith)
+    load-fault-short = both-short _ _ (omega arith) _ _ (omega arith) (omega arith)
 
     pub store-fault-short : length (storeFault k place last) ≤ longestReason
     unfolding storeFault storeFaultLine
-    store-fault-short = both-short _ (k ∷ place ∷ []) (h, (p, tt)) _ (place ∷ last ∷ []) (p, (l, tt)) (omega arith)
+    store-fault-short = both-short _ _ (omega arith) _ _ (omega arith) (omega arith)
 
   module _ (c : Cause) (s : SmallCause c) where
     pub turned-short : length (turned k c) ≤ longestReason
     unfolding turned committedLine
-    turned-short =
-        both-short _ (k ∷ []) (h, tt) _ (c .cell ∷ c .program ∷ c .program ∷ c .program ∷ k ∷ []) (s .0, (s .1, (s .1, (s .1, (h, tt))))) (omega arith)
+    turned-short = both-short _ _ (omega arith) _ _ (omega arith) (omega arith)
 
     pub waw-short : length (waw k c) ≤ longestReason
     unfolding waw wawLine
-    waw-short = both-short _ (k ∷ c .cell ∷ c .program ∷ []) (h, (s .0, (s .1, tt))) _ (c .cell ∷ c .program ∷ []) (s .0, (s .1, tt)) (omega arith)
+    waw-short = both-short _ _ (omega arith) _ _ (omega arith) (omega arith)
 
     pub raw-short : length (raw k c) ≤ longestReason
     unfolding raw rawLine
-    raw-short = both-short _ (k ∷ c .cell ∷ c .program ∷ []) (h, (s .0, (s .1, tt))) _ (c .cell ∷ c .program ∷ []) (s .0, (s .1, tt)) (omega arith)
+    raw-short = both-short _ _ (omega arith) _ _ (omega arith) (omega arith)
 
     pub raw-with-war-short : (d : Cause) → SmallCause d → length (rawWithWar k c d) ≤ longestReason
     unfolding rawWithWar rawWithWarLine
-    raw-with-war-short d t =
-        both-short _ (k ∷ c .cell ∷ c .program ∷ d .cell ∷ d .program ∷ []) (h, (s .0, (s .1, (t .0, (t .1, tt))))) _
-        (c .program ∷ c .cell ∷ c .program ∷ k ∷ d .program ∷ d .cell ∷ k ∷ d .program ∷ [])
-        (s .1, (s .0, (s .1, (h, (t .1, (t .0, (h, (t .1, tt)))))))) (omega arith)
+    raw-with-war-short d t = both-short _ _ (omega arith) _ _ (omega arith) (omega arith)
 
 -- what comes of a carried program
 more-short : (batches : ℕ) → Small batches → length (moreBatches batches) ≤ 16 + 10
 unfolding moreBatches
-more-short batches b = either-short _ (batches ∷ []) (b, tt) _ (eqb batches 1) (16 + 10) (omega arith) (omega arith)
+more-short batches b = either-short _ _ (omega arith) _ (eqb batches 1) (16 + 10) (omega arith) (omega arith)
 
 pub again-short : (place batches : ℕ) → Small place → Small batches → length (again place batches) ≤ longestAgain
 unfolding again
-again-short place batches p b = then-short _ (place ∷ []) (p, tt) (87 + 10) (omega arith) _ (16 + 10) (more-short batches b)
+again-short place batches p b = then-short _ _ (omega arith) (87 + 10) (omega arith) _ (16 + 10) (more-short batches b)

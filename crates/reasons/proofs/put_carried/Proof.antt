@@ -32,7 +32,8 @@ unfolding carriedText
 put-again-requires c κs =
     let p = c .before .before .before in
     let m = p .before .before .before in
-    room-then _ _ (room-by (m .before .before .before) _ (m .answer2 .given .1)) (p .put-waw .ensures)
+    let s = m .before .before .before in
+    (s .pre .0, room-then _ _ (room-by s _ (m .answer2 .given .1)) (p .put-waw .ensures))
 
 returns-2 : tie.Need-returns-2
 unfolding carriedText
@@ -54,7 +55,8 @@ unfolding carriedText
 put-again-requires-2 c κs =
     let p = c .before .before .before in
     let m = p .before .before .before in
-    room-then _ _ (room-by (m .before .before .before) _ (m .answer3 .given .1)) (p .put-raw .ensures)
+    let s = m .before .before .before in
+    (s .pre .0, room-then _ _ (room-by s _ (m .answer3 .given .1)) (p .put-raw .ensures))
 
 returns-3 : tie.Need-returns-3
 unfolding carriedText
@@ -76,7 +78,8 @@ unfolding carriedText
 put-again-requires-3 c κs =
     let p = c .before .before .before in
     let m = p .before .before .before in
-    room-then _ _ (room-by (m .before .before .before) _ (m .answer4 .given .1)) (p .put-raw-with-war .ensures)
+    let s = m .before .before .before in
+    (s .pre .0, room-then _ _ (room-by s _ (m .answer4 .given .1)) (p .put-raw-with-war .ensures))
 
 returns-4 : tie.Need-returns-4
 unfolding carriedText
@@ -95,15 +98,12 @@ put-carried-spec =
     put-refused-requires
     (λ c. search needs)
     put-waw-requires
-    (λ c. search needs)
     put-again-requires
     (λ c. search needs)
     put-raw-requires
-    (λ c. search needs)
     put-again-requires-2
     (λ c. search needs)
     put-raw-with-war-requires
-    (λ c. search needs)
     put-again-requires-3
     (λ c. search needs)
     returns
