@@ -141,3 +141,24 @@ fn number_at(bytes: &[u8], place: usize) -> usize {
 pub const fn first_offset(count: usize) -> usize {
     OFFSETS + 2 * (count + 1)
 }
+
+/// Writes the image of these programs, for which the output has just the room: count, rule byte, 0,
+/// the offsets, the programs.
+pub fn write<'a>(out: &mut [u8], count: usize, rule_byte: u8, programs: impl Iterator<Item = &'a [u8]>) {
+    let mut offset = first_offset(count);
+    out[..2].copy_from_slice(&number(count));
+    out[RULE] = rule_byte;
+    out[ZERO] = 0;
+    out[OFFSETS..OFFSETS + 2].copy_from_slice(&number(offset));
+    for (place, program) in programs.enumerate() {
+        let end = offset + program.len();
+        out[offset..end].copy_from_slice(program);
+        out[OFFSETS + 2 * (place + 1)..][..2].copy_from_slice(&number(end));
+        offset = end;
+    }
+}
+
+/// "All numbers are 16 bits, low byte first."
+fn number(value: usize) -> [u8; 2] {
+    (value as u16).to_le_bytes()
+}

@@ -17,6 +17,7 @@
 //!
 //! | file | request of document 02 |
 //! |---|---|
+//! | `sheet.rs` | 1, a sheet we can type |
 //! | `why.rs` | 3, tell me why I was carried |
 //! | `explain.rs` | 3, the program that tells it in words |
 
@@ -30,12 +31,14 @@ pub mod machine;
 mod next;
 mod order;
 pub mod refusal;
+pub mod sheet;
 pub mod steps;
 mod why;
 
 pub use image::{program, program_refusal};
 pub use next::next_image;
 pub use order::order;
+pub use sheet::{image_of, sheet_of, Text};
 pub use steps::{gather, open, settle};
 pub use why::{why, Cause};
 

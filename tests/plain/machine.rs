@@ -22,6 +22,9 @@ pub const SKIPLESS: u8 = 6;
 pub const SKIPEQUAL: u8 = 7;
 pub const REJECT: u8 = 8;
 
+/// The operations' names, by number.
+pub const NAMES: [&str; 9] = ["end", "set", "load", "store", "add", "sub", "skipless", "skipequal", "reject"];
+
 /// How a run came to its end.
 pub enum End {
     Finished,

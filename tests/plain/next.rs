@@ -2,7 +2,7 @@
 //! Document 01, "The steps"; its checks go 1 to 7, 9, 21 to 24, 11, 10.
 
 use crate::area::{self, CARRIED};
-use crate::image::{first_offset, Image, PROGRAMS};
+use crate::image::{self, first_offset, Image, PROGRAMS};
 use crate::{refusal, Count};
 
 /// "The carried programs in number order, then the fresh image's programs, with the fresh image's
@@ -34,26 +34,6 @@ fn next_image_checked(
     if out.len() < length {
         return Err(refusal::TOO_SHORT);
     }
-    write(&mut out[..length], count, fresh.rule_byte(), next());
+    image::write(&mut out[..length], count, fresh.rule_byte(), next());
     Ok(length)
-}
-
-/// Writes the image of these programs: count, rule byte, 0, the offsets, the programs.
-fn write<'a>(out: &mut [u8], count: usize, rule_byte: u8, programs: impl Iterator<Item = &'a [u8]>) {
-    let mut offset = first_offset(count);
-    out[..2].copy_from_slice(&number(count));
-    out[2] = rule_byte;
-    out[3] = 0;
-    out[4..6].copy_from_slice(&number(offset));
-    for (place, program) in programs.enumerate() {
-        let end = offset + program.len();
-        out[offset..end].copy_from_slice(program);
-        out[6 + 2 * place..8 + 2 * place].copy_from_slice(&number(end));
-        offset = end;
-    }
-}
-
-/// "All numbers are 16 bits, low byte first."
-fn number(value: usize) -> [u8; 2] {
-    (value as u16).to_le_bytes()
 }
