@@ -1,8 +1,9 @@
-//! A tiny assembler: a program is written as its instructions, an image as its programs.
-//! Document 01, "Instructions" and "The image: counts and offsets".
+//! A tiny assembler: a program is written as its instructions, an image or a sheet as its programs.
+//! Document 01, "Instructions" and "The image: counts and offsets"; document 02, request 1.
 
 use plain::image::{first_offset, INSTRUCTION_BYTES};
 use plain::machine::{ADD, END, LOAD, REJECT, SET, SKIPEQUAL, SKIPLESS, STORE, SUB};
+use plain::sheet;
 
 /// Operation, a, b, c.
 pub type Instruction = [u8; INSTRUCTION_BYTES];
@@ -74,6 +75,13 @@ pub fn image(rule: u8, programs: &[Vec<Instruction>]) -> Vec<u8> {
     }
     image.extend(programs.iter().flatten().flatten());
     image
+}
+
+/// The sheet of these programs under a rule byte. They may be too many, too long or bad: a sheet is text.
+pub fn sheet(rule: u8, programs: &[Vec<Instruction>]) -> Vec<u8> {
+    let mut sheet = Vec::new();
+    sheet::say(rule, programs.iter().map(|program| program.as_flattened()), |text| sheet.extend(text));
+    sheet
 }
 
 /// What the batch program reads: T, the cells, the image.

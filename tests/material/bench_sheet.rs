@@ -1,7 +1,7 @@
 //! The bench sheet: each case as instructions, with what document 01 says comes of it.
 //! Document 01, "Bench sheet"; the examples of source 004 and V of source 000.
 
-use crate::assembler::{add, image, load, reject, set, skipequal, skipless, store, sub};
+use crate::assembler::{add, load, reject, set, skipequal, skipless, store, sub};
 use crate::assembler::{R0, R1, R2, R3};
 use crate::case::{case, outcome, Case, Program};
 use plain::area::{CARRIED, COMMITTED, FAULTED, REJECTED};
@@ -166,6 +166,5 @@ fn case_14a() -> Case {
 /// 14. One further gives 4. It would not be taken.
 fn case_14b() -> Case {
     let programs = [vec![set(R1, 1), skipequal(R0, R1, 2), store(R0, R1)]];
-    let expected = Err(refusal::INSTRUCTION);
-    Case { name: "14b", table: vec![1, 2, 3], image: image(1, &programs), expected }
+    case("14b", &[1, 2, 3], 1, &programs, Err(refusal::INSTRUCTION))
 }

@@ -1,6 +1,6 @@
 //! A worked case: a batch to run, with what is to come of it.
 
-use crate::assembler::{image, Instruction};
+use crate::assembler::{image, sheet, Instruction};
 
 pub type Program = Vec<Instruction>;
 
@@ -9,6 +9,8 @@ pub struct Case {
     pub name: &'static str,
     pub table: Vec<u32>,
     pub image: Vec<u8>,
+    /// The image as text, also where an instruction is bad.
+    pub sheet: Vec<u8>,
     pub expected: Result<Outcome, u32>,
 }
 
@@ -20,10 +22,16 @@ pub struct Outcome {
 }
 
 /// A case of these programs under a rule byte.
-pub fn case(name: &'static str, table: &[u32], rule: u8, programs: &[Program], expected: Outcome) -> Case {
-    Case { name, table: table.to_vec(), image: image(rule, programs), expected: Ok(expected) }
+pub fn case(
+    name: &'static str,
+    table: &[u32],
+    rule: u8,
+    programs: &[Program],
+    expected: Result<Outcome, u32>,
+) -> Case {
+    Case { name, table: table.to_vec(), image: image(rule, programs), sheet: sheet(rule, programs), expected }
 }
 
-pub fn outcome(slots: &[(u32, u32)], order: &[u32], table: &[u32]) -> Outcome {
-    Outcome { slots: slots.to_vec(), order: order.to_vec(), table: table.to_vec() }
+pub fn outcome(slots: &[(u32, u32)], order: &[u32], table: &[u32]) -> Result<Outcome, u32> {
+    Ok(Outcome { slots: slots.to_vec(), order: order.to_vec(), table: table.to_vec() })
 }

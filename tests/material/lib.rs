@@ -1,8 +1,9 @@
-//! What the tests are made of: an assembler, the bench sheet's cases, the lessons' batches, and random
-//! programs.
+//! What the tests are made of: an assembler, the bench sheet's cases, the lessons' batches, sheets at a
+//! limit, and random programs.
 
 pub mod assembler;
 pub mod bench_sheet;
 pub mod case;
 pub mod lessons;
 pub mod random;
+pub mod sheets;

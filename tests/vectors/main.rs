@@ -12,6 +12,7 @@ mod good;
 
 use material::assembler::input;
 use material::bench_sheet;
+use material::case::Case;
 use material::lessons::lessons;
 use plain::{batch, explain};
 use std::fs;
@@ -72,21 +73,23 @@ fn bench_inputs() -> Vec<Vec<u8>> {
     bench_sheet::cases().iter().map(|case| input(&case.table, &case.image)).collect()
 }
 
-/// Each case of the bench sheet and each lesson's batch as a file to run, and beside it what the
-/// programs print.
+/// Each case of the bench sheet and each lesson's batch as a file to run, and beside it its image as a
+/// sheet and what the programs print.
 fn write_examples(folder: &Path) -> io::Result<()> {
     fs::create_dir_all(folder)?;
     for case in bench_sheet::cases() {
-        write_example(folder, &format!("case-{}", case.name), &input(&case.table, &case.image))?;
+        write_example(folder, &format!("case-{}", case.name), &case)?;
     }
     for lesson in lessons() {
-        write_example(folder, lesson.name, &input(&lesson.table, &lesson.image))?;
+        write_example(folder, lesson.name, &lesson)?;
     }
     Ok(())
 }
 
-fn write_example(folder: &Path, name: &str, input: &[u8]) -> io::Result<()> {
-    fs::write(folder.join(format!("{name}.bin")), input)?;
-    fs::write(folder.join(format!("{name}.txt")), batch::printed(input))?;
-    fs::write(folder.join(format!("{name}.why.txt")), explain::printed(input))
+fn write_example(folder: &Path, name: &str, case: &Case) -> io::Result<()> {
+    let input = input(&case.table, &case.image);
+    fs::write(folder.join(format!("{name}.bin")), &input)?;
+    fs::write(folder.join(format!("{name}.sheet")), &case.sheet)?;
+    fs::write(folder.join(format!("{name}.txt")), batch::printed(&input))?;
+    fs::write(folder.join(format!("{name}.why.txt")), explain::printed(&input))
 }
