@@ -1,7 +1,8 @@
-//! The independent implementation's own tests: the bench sheet, every row of the refusals, why a
-//! program was carried, and how the program `why` says it.
+//! The independent implementation's own tests: the bench sheet, every row of the refusals, sheets that
+//! can be typed, why a program was carried, and how the program `why` says it.
 
 mod bench_sheet;
 mod explain;
 mod refusals;
+mod sheet;
 mod why;
