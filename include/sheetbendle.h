@@ -10,7 +10,11 @@
  *     sheetbendle_order        the committed programs, as if they had run one after the other
  *     sheetbendle_next_image   the carried programs and the fresh ones, as the next batch
  *
- * sheetbendle_program and sheetbendle_program_refusal need only the image and can be called at any time.
+ * The calls above are those of a batch. Four others need no batch and can be made at any time:
+ *
+ *     sheetbendle_program, sheetbendle_program_refusal   a program of an image, by its number
+ *     sheetbendle_image_of                               from a sheet, which is text, to its image
+ *     sheetbendle_sheet_of                               from an image to its sheet
  *
  * Who owns what. The caller owns every buffer. The library keeps nothing between calls, has no
  * memory of its own and never asks for any; a batch lives in its image, table and area alone. So
@@ -20,8 +24,9 @@
  *
  * Buffers. A buffer that a call may change, which is one whose pointer is not const, must not
  * overlap another buffer of that call; buffers that it only reads may overlap. Each pointer goes
- * with its length: in bytes for an image, in cells for a table, in words for an area, in entries
- * for a list. A null pointer goes with length 0. A buffer of words is aligned as uint32_t asks.
+ * with its length: in bytes for an image or a sheet, in cells for a table, in words for an area, in
+ * entries for a list. A null pointer goes with length 0. A buffer of words is aligned as uint32_t
+ * asks.
  *
  * Threads. Calls may be made from any thread, also at the same time or from a handler that
  * interrupts another call, as long as no buffer that one of the calls under way may change overlaps
@@ -32,33 +37,39 @@
  * outside it needs one function, memset. The deepest stack of each call in bytes, from the caller's
  * frame down, as bench/run measures it on x86-64:
  *
- *     program   program_refusal   open   gather   settle   why   order   next_image
- *         120               120    136      760      200   200     968          216
+ *     program   program_refusal   open   gather   settle   why   order   next_image   image_of   sheet_of
+ *         120               120    136      760      200   200     968          216          0          0
  *
  * Refusals. Every call may be lent anything: it checks first, in the order of the numbers below
- * (the next image: 1 to 7, 9, 21 to 24, 11, 10), and the first that holds is returned. A refused
- * call changes no lent memory, and every other number it returns is 0.
+ * (the next image: 1 to 7, 9, 21 to 24, 11, 10; the image of a sheet: 51, 2, 3, 4, 10), and the
+ * first that holds is returned. A refused call changes no lent memory, and every other number it
+ * returns is 0, but for the line of 51.
  *
  *     no.   when exactly                                                              from
  *      0    done                                                                      all
- *      1    image under 6 or over 8326 bytes                                          all
- *      2    program count over 64, rule over 2, or byte 3 not 0                       all
- *      3    image under 2n+6 bytes, or an offset rule broken                          all
+ *      1    image under 6 or over 8326 bytes                                          all but image_of
+ *      2    program count over 64, rule over 2, or byte 3 not 0; a sheet: over 64     all
+ *           programs
+ *      3    image under 2n+6 bytes, or an offset rule broken; a sheet: some program   all
+ *           has over 32 instructions
  *      4    some instruction is bad                                                   all
- *      5    table of 0 or over 256 cells                                              all but program
- *      6    area is not 2T + 100n words                                               all but program
- *      7    a mark over n, a state over 5, a count over 32, or a cell of T or more    all but program, open
+ *      5    table of 0 or over 256 cells                                              those of a batch
+ *      6    area is not 2T + 100n words                                               those of a batch
+ *      7    a mark over n, a state over 5, a count over 32, or a cell of T or more    those of a batch but open
  *           among the counted ones
  *      8    program number n or more                                                  program, gather, settle, why
- *      9    gather: this state is not 0; settle: some state is 0, or this one is      all but program, open
+ *      9    gather: this state is not 0; settle: some state is 0, or this one is      those of a batch but open
  *           not 1; why, order and next image: some state is 0 or 1
- *     10    list under n entries; output shorter than the next image                  order, next_image
+ *     10    list under n entries; output shorter than the next image, than the        order, next_image,
+ *           sheet's image, than the image's sheet                                     image_of, sheet_of
  *     11    carried plus fresh programs over 64                                       next_image
  *     12    no order exists (never for an area that these calls made on this image)   order
  *     13    this program is not carried                                               why
  *     15    its detail is not the reason that its slot, the marks and the rule give   why
  *           (never for an area that these calls made on this image)
  *     21-24 as 1 to 4, for the fresh image                                            next_image
+ *     51    some line of the sheet is one that its place does not allow; the number   image_of
+ *           of the first such line is returned too
  *
  * T is the number of cells and n the number of programs.
  *
@@ -80,6 +91,22 @@
  *
  * Any other operation is bad, and so is a register over 7, a byte that is not 0 where the list says
  * 0, and a skip past the program's end.
+ *
+ * The sheet. An image as text that can be typed: a line "rule R" with the rule byte R, which is 0,
+ * 1 or 2, then for each program a line "program" and a line for each of its instructions: its name
+ * in the list above and its three bytes a, b, c in decimal. Words stand apart by single spaces,
+ * numbers have no leading zeros and go up to 255, every line ends with a newline (byte 10), the
+ * last one too. Nothing else is a sheet. So line 1 is a rule line, line 2, if there is one, is
+ * "program", and every line after it is "program" or an instruction. Bytes behind the last newline
+ * are a line that is never allowed, and an empty sheet is refused at line 1.
+ *
+ *     rule 2
+ *     program
+ *     set 0 0 4
+ *     store 0 1 0
+ *
+ * The two ways undo each other: the sheet of a sheet's image is that sheet, and the image of an
+ * image's sheet is that image, byte by byte.
  */
 #ifndef SHEETBENDLE_H
 #define SHEETBENDLE_H
@@ -94,9 +121,9 @@ extern "C" {
 /*
  * The number of what this header declares: raised by every change of a signature, a state, a
  * refusal, a size or a place in memory. A program that was written for this one can ask for it:
- * #if SHEETBENDLE_VERSION != 2
+ * #if SHEETBENDLE_VERSION != 3
  */
-#define SHEETBENDLE_VERSION 2
+#define SHEETBENDLE_VERSION 3
 
 /* Limits. */
 #define SHEETBENDLE_PROGRAMS 64     /* the most programs of an image */
@@ -109,6 +136,15 @@ extern "C" {
 #define SHEETBENDLE_SHORTEST_IMAGE SHEETBENDLE_IMAGE_BYTES(0u, 0u) /* 6 bytes */
 #define SHEETBENDLE_LONGEST_IMAGE \
     SHEETBENDLE_IMAGE_BYTES(SHEETBENDLE_PROGRAMS, SHEETBENDLE_PROGRAMS * SHEETBENDLE_INSTRUCTIONS) /* 8326 bytes */
+
+/*
+ * The bytes of the longest sheet that a good image has: 7 for "rule 2" and, for each program, 8 for
+ * "program" and at most 17 for an instruction, newlines included. No good instruction has a longer
+ * line than skipequal: "skipequal 7 7 c" takes 17 where c is 10 or more, and 16 otherwise. A skip
+ * stays in its program, so c can be 10 or more in all but a program's last 10 instructions.
+ */
+#define SHEETBENDLE_LONGEST_SHEET \
+    (7u + SHEETBENDLE_PROGRAMS * (8u + 17u * (SHEETBENDLE_INSTRUCTIONS - 10u) + 16u * 10u)) /* 34695 bytes */
 
 /* The program count of an image, which its first two bytes say. */
 #define SHEETBENDLE_PROGRAM_COUNT(image) ((size_t)(image)[0] + 256u * (size_t)(image)[1])
@@ -176,6 +212,7 @@ extern "C" {
 #define SHEETBENDLE_REFUSED_FRESH_HEADER 22u
 #define SHEETBENDLE_REFUSED_FRESH_OFFSETS 23u
 #define SHEETBENDLE_REFUSED_FRESH_INSTRUCTION 24u
+#define SHEETBENDLE_REFUSED_LINE 51u
 
 /* States of a program, with what its detail then says. */
 #define SHEETBENDLE_WAITING 0u   /* 0 */
@@ -212,6 +249,14 @@ typedef struct {
 typedef struct {
     uint32_t refusal, count;
 } sheetbendle_count;
+
+/*
+ * What the two calls of sheets return: the length in bytes of what was written. Refusal 51 has the
+ * number of the line, from 1, that its place does not allow; line is 0 for everything else.
+ */
+typedef struct {
+    uint32_t refusal, length, line;
+} sheetbendle_text;
 
 /* A part of the image: where it starts and how many bytes it has; 0, 0 on a refusal. */
 typedef struct {
@@ -288,6 +333,22 @@ sheetbendle_count sheetbendle_next_image(const uint8_t *image, size_t image_byte
                                          const uint32_t *area, size_t words,
                                          const uint8_t *fresh, size_t fresh_bytes,
                                          uint8_t *out, size_t out_bytes);
+
+/*
+ * Reads a sheet and writes its image. The sheet is bytes with a length: no zero ends it. An output
+ * of SHEETBENDLE_LONGEST_IMAGE bytes is always long enough; its bytes beyond the returned length
+ * stay as they are. Returns the length; or a refusal: 51 with the line, 2, 3, 4, 10.
+ */
+sheetbendle_text sheetbendle_image_of(const uint8_t *sheet, size_t sheet_bytes,
+                                      uint8_t *out, size_t out_bytes);
+
+/*
+ * Reads an image and writes its sheet. No zero is put behind it. An output of
+ * SHEETBENDLE_LONGEST_SHEET bytes is always long enough; its bytes beyond the returned length stay
+ * as they are. Returns the length; or a refusal: 1 to 4, 10.
+ */
+sheetbendle_text sheetbendle_sheet_of(const uint8_t *image, size_t image_bytes,
+                                      uint8_t *out, size_t out_bytes);
 
 #ifdef __cplusplus
 }

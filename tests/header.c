@@ -68,6 +68,11 @@ IS(SHEETBENDLE_REFUSED_FRESH_HEADER, 22);
 IS(SHEETBENDLE_REFUSED_FRESH_OFFSETS, 23);
 IS(SHEETBENDLE_REFUSED_FRESH_INSTRUCTION, 24);
 
+/* Document 02, request 1. */
+IS(SHEETBENDLE_REFUSED_LINE, 51);
+IS(SHEETBENDLE_LONGEST_SHEET, 7 + 64 * (8 + 22 * 17 + 10 * 16));
+IS(SHEETBENDLE_LONGEST_SHEET, 34695);
+
 /* Document 02, request 3. */
 IS(SHEETBENDLE_REFUSED_NOT_CARRIED, 13);
 IS(SHEETBENDLE_REFUSED_REASON, 15);
@@ -107,6 +112,11 @@ SIZE(sheetbendle_cause, 24);
 MEMBER(sheetbendle_count, refusal, 0, 4);
 MEMBER(sheetbendle_count, count, 4, 4);
 SIZE(sheetbendle_count, 8);
+
+MEMBER(sheetbendle_text, refusal, 0, 4);
+MEMBER(sheetbendle_text, length, 4, 4);
+MEMBER(sheetbendle_text, line, 8, 4);
+SIZE(sheetbendle_text, 12);
 
 MEMBER(sheetbendle_part, start, 0, sizeof(size_t));
 MEMBER(sheetbendle_part, length, sizeof(size_t), sizeof(size_t));

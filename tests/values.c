@@ -1,5 +1,5 @@
 /*
- * Each of the eight functions is called through the header where the members of its answer are told apart: a member that lies in another's place, in the
+ * Each of the ten functions is called through the header where the members of its answer are told apart: a member that lies in another's place, in the
  * header or in the archive, is noticed here. So is a word of the area that does not lie where the header says. Every expected number is worked
  * out by hand from documents 01 and 02.
  */
@@ -84,6 +84,14 @@ static void is(const char *what, unsigned line, unsigned long got, unsigned long
         IS(answer.count, count_);         \
     } while (0)
 
+#define TEXT_IS(call, refusal_, length_, line_) \
+    do {                                        \
+        sheetbendle_text text = call;           \
+        IS(text.refusal, refusal_);             \
+        IS(text.length, length_);               \
+        IS(text.line, line_);                   \
+    } while (0)
+
 #define PART_IS(call, start_, length_)  \
     do {                                \
         sheetbendle_part part = call;   \
@@ -157,6 +165,52 @@ static void causes(void) {
     CAUSE_IS(sheetbendle_why(CAUSE_LENT, 3), SHEETBENDLE_DONE, SHEETBENDLE_RAW, 5, 1, 0, 0);
 }
 
+/* Sheets: that of the fresh image; one of 28 bytes with an instruction whose bytes are told apart; the same with a bad register, and with a byte over 255. */
+static const char empty_program[] = "rule 1\nprogram\n";
+static const char one_instruction[] = "rule 2\nprogram\nset 3 44 255\n";
+static const char bad_instruction[] = "rule 2\nprogram\nset 8 44 255\n";
+static const char bad_line[] = "rule 2\nprogram\nset 3 44 256\n";
+static uint8_t sheet[SHEETBENDLE_LONGEST_SHEET];
+
+/* A sheet as the calls take it: without the zero at its end. */
+#define TYPED(text) (const uint8_t *)(text), sizeof(text) - 1
+
+/* Each way, and each of image_of's own refusals. */
+static void sheets(void) {
+    size_t i;
+    for (i = 0; i < sizeof sheet; i++)
+        sheet[i] = 90;
+    TEXT_IS(sheetbendle_sheet_of(fresh, sizeof fresh, sheet, sizeof empty_program - 2), SHEETBENDLE_REFUSED_TOO_SHORT, 0, 0);
+    TEXT_IS(sheetbendle_sheet_of(fresh, sizeof fresh - 3, sheet, sizeof sheet), SHEETBENDLE_REFUSED_IMAGE_SIZE, 0, 0);
+    IS(sheet[0], 90);
+    TEXT_IS(sheetbendle_sheet_of(fresh, sizeof fresh, sheet, sizeof sheet), SHEETBENDLE_DONE, 15, 0);
+    for (i = 0; i < 15; i++)
+        IS(sheet[i], (unsigned char)empty_program[i]);
+    IS(sheet[15], 90);
+
+    for (i = 0; i < sizeof out; i++)
+        out[i] = 90;
+    TEXT_IS(sheetbendle_image_of(TYPED(bad_line), out, sizeof out), SHEETBENDLE_REFUSED_LINE, 0, 3);
+    TEXT_IS(sheetbendle_image_of((const uint8_t *)bad_line, 14, out, sizeof out), SHEETBENDLE_REFUSED_LINE, 0, 2);
+    TEXT_IS(sheetbendle_image_of(NULL, 0, out, sizeof out), SHEETBENDLE_REFUSED_LINE, 0, 1);
+    TEXT_IS(sheetbendle_image_of(TYPED(bad_instruction), out, sizeof out), SHEETBENDLE_REFUSED_INSTRUCTION, 0, 0);
+    TEXT_IS(sheetbendle_image_of(TYPED(one_instruction), out, 11), SHEETBENDLE_REFUSED_TOO_SHORT, 0, 0);
+    IS(out[0], 90);
+    TEXT_IS(sheetbendle_image_of(TYPED(one_instruction), out, sizeof out), SHEETBENDLE_DONE, 12, 0);
+    IS(SHEETBENDLE_PROGRAM_COUNT(out), 1);
+    IS(out[2], SHEETBENDLE_RULE_2);
+    IS(out[4], 8);
+    IS(out[6], 12);
+    IS(out[8], SHEETBENDLE_OP_SET);
+    IS(out[9], 3);
+    IS(out[10], 44);
+    IS(out[11], 255);
+    IS(out[12], 90);
+    TEXT_IS(sheetbendle_image_of(TYPED(empty_program), out, sizeof out), SHEETBENDLE_DONE, sizeof fresh, 0);
+    for (i = 0; i < sizeof fresh; i++)
+        IS(out[i], fresh[i]);
+}
+
 int main(void) {
     const uint32_t *writes = area + SHEETBENDLE_WRITE_MARKS(CELLS), *reads = area + SHEETBENDLE_READ_MARKS(CELLS), *slot;
 
@@ -217,6 +271,8 @@ int main(void) {
     PART_IS(sheetbendle_program(out, 26, 0), 10, 16);
     IS(out[10 + 3], 2);
     IS(out[2], SHEETBENDLE_RULE_1);
+
+    sheets();
 
     printf("values in C: %u passed, %u failed\n", passed, failed);
     return failed == 0 ? 0 : 1;
