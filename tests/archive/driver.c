@@ -10,8 +10,8 @@
 #include <stdio.h>
 #include <unistd.h>
 
-enum { PROGRAM, PROGRAM_REFUSAL, OPEN, GATHER, SETTLE, WHY, ORDER, NEXT_IMAGE };
-enum { TABLE, AREA, LIST, IMAGE, FRESH, OUT, BUFFERS };
+enum { PROGRAM, PROGRAM_REFUSAL, OPEN, GATHER, SETTLE, WHY, ORDER, NEXT_IMAGE, IMAGE_OF, SHEET_OF };
+enum { TABLE, AREA, LIST, IMAGE, FRESH, SHEET, OUT, BUFFERS };
 enum { NOTHING, STACK, INSTRUCTIONS };
 
 /* A call that takes more seconds than this is taken to hang, and ends this program. Counting instructions may take long. */
@@ -21,8 +21,8 @@ enum { NOTHING, STACK, INSTRUCTIONS };
 /* The most numbers that a call returns. */
 #define RESULTS 6
 
-/* Room for the largest buffers that are lent, with their guards. */
-#define ROOM (256 * 1024)
+/* Room for the largest buffers that are lent, with their guards: a sheet of more than a megabyte is the largest. */
+#define ROOM (2 * 1024 * 1024)
 
 static struct {
     uint64_t bytes; /* of the frame */
@@ -65,6 +65,10 @@ static void count_results(sheetbendle_count count) {
     results(count.refusal, count.count, 0);
 }
 
+static void text_results(sheetbendle_text text) {
+    results(text.refusal, text.length, text.line);
+}
+
 static void part_results(sheetbendle_part part) {
     results(part.start, part.length, 0);
 }
@@ -82,6 +86,8 @@ static inline __attribute__((always_inline)) void make_call(void) {
     case NEXT_IMAGE:
         count_results(sheetbendle_next_image(LENT(IMAGE), LENT(TABLE), LENT(AREA), LENT(FRESH), LENT(OUT)));
         break;
+    case IMAGE_OF: text_results(sheetbendle_image_of(LENT(SHEET), LENT(OUT))); break;
+    case SHEET_OF: text_results(sheetbendle_sheet_of(LENT(IMAGE), LENT(OUT))); break;
     }
 }
 

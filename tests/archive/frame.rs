@@ -13,6 +13,8 @@ pub enum Call {
     Why,
     Order,
     NextImage,
+    ImageOf,
+    SheetOf,
 }
 
 /// The buffers' names, in the order in which they lie in a frame: words first, which keeps them aligned.
@@ -23,6 +25,7 @@ pub enum Name {
     List,
     Image,
     Fresh,
+    Sheet,
     Out,
 }
 

@@ -9,7 +9,7 @@ pub use buffer::{bytes, words, Buffer};
 pub use frame::Measure;
 
 use frame::{Call, Frame, Lent, Name, Results};
-use plain::{Cause, Count, Step};
+use plain::{Cause, Count, Step, Text};
 use std::io::{self, Read, Write};
 use std::ops::Range;
 use std::process::{Child, ChildStdin, ChildStdout, Command, Stdio};
@@ -150,6 +150,14 @@ impl Archive {
         ];
         count(self.call(Call::NextImage, 0, lent))
     }
+
+    pub fn image_of(&mut self, sheet: &mut Buffer<u8>, out: &mut Buffer<u8>) -> Text {
+        text(self.call(Call::ImageOf, 0, &mut [(Name::Sheet, sheet), (Name::Out, out)]))
+    }
+
+    pub fn sheet_of(&mut self, image: &mut Buffer<u8>, out: &mut Buffer<u8>) -> Text {
+        text(self.call(Call::SheetOf, 0, &mut [(Name::Image, image), (Name::Out, out)]))
+    }
 }
 
 // The driver widens each result of 32 bits without a change, so nothing is cut off here.
@@ -165,6 +173,10 @@ fn step([refusal, state, detail, ..]: Results) -> Step {
 fn cause(results: Results) -> Cause {
     let [refusal, reason, cell, program, war_cell, war_program] = results.map(|result| result as u32);
     Cause { refusal, reason, cell, program, war_cell, war_program }
+}
+
+fn text([refusal, length, line, ..]: Results) -> Text {
+    Text { refusal: refusal as u32, length: length as u32, line: line as u32 }
 }
 
 fn count([refusal, count, ..]: Results) -> Count {

@@ -1,8 +1,8 @@
-//! The eight calls, made on the independent implementation or on the archive.
+//! The ten calls, made on the independent implementation or on the archive.
 
 use crate::lent::Lent;
 use archive::Archive;
-use plain::{Cause, Count, Step};
+use plain::{Cause, Count, Step, Text};
 use std::ops::Range;
 
 #[derive(Clone, Copy, Debug)]
@@ -15,6 +15,8 @@ pub enum Call {
     Why(usize),
     Order,
     NextImage,
+    ImageOf,
+    SheetOf,
 }
 
 #[derive(Clone, Debug, PartialEq)]
@@ -24,11 +26,12 @@ pub enum Answer {
     Step(Step),
     Cause(Cause),
     Count(Count),
+    Text(Text),
 }
 
 /// Makes a call on the independent implementation.
 pub fn on_plain(call: Call, lent: &mut Lent) -> Answer {
-    let Lent { image, table, area, list, fresh, out } = lent;
+    let Lent { image, table, area, list, fresh, sheet, out } = lent;
     let image = image.lent();
     match call {
         Call::Program(number) => Answer::Part(part_of(image, plain::program(image, number))),
@@ -41,12 +44,14 @@ pub fn on_plain(call: Call, lent: &mut Lent) -> Answer {
         Call::NextImage => {
             Answer::Count(plain::next_image(image, table.lent(), area.lent(), fresh.lent(), out.lent_mut()))
         }
+        Call::ImageOf => Answer::Text(plain::image_of(sheet.lent(), out.lent_mut())),
+        Call::SheetOf => Answer::Text(plain::sheet_of(image, out.lent_mut())),
     }
 }
 
 /// Makes a call on the archive.
 pub fn on_archive(archive: &mut Archive, call: Call, lent: &mut Lent) -> Answer {
-    let Lent { image, table, area, list, fresh, out } = lent;
+    let Lent { image, table, area, list, fresh, sheet, out } = lent;
     match call {
         Call::Program(number) => Answer::Part(archive.program(image, number)),
         Call::ProgramRefusal(number) => Answer::Refusal(archive.program_refusal(image, number)),
@@ -56,6 +61,8 @@ pub fn on_archive(archive: &mut Archive, call: Call, lent: &mut Lent) -> Answer 
         Call::Why(number) => Answer::Cause(archive.why(image, table, area, number)),
         Call::Order => Answer::Count(archive.order(image, table, area, list)),
         Call::NextImage => Answer::Count(archive.next_image(image, table, area, fresh, out)),
+        Call::ImageOf => Answer::Text(archive.image_of(sheet, out)),
+        Call::SheetOf => Answer::Text(archive.sheet_of(image, out)),
     }
 }
 

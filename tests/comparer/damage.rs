@@ -30,7 +30,7 @@ fn resize_list(random: &mut Random, lent: &mut Lent, programs: usize) {
 
 /// An image that is too short or too long, has a bad header, offset, length or instruction, or any
 /// byte changed.
-fn damaged_image(random: &mut Random, good: &[u8]) -> Vec<u8> {
+pub fn damaged_image(random: &mut Random, good: &[u8]) -> Vec<u8> {
     let mut image = good.to_vec();
     let length = image.len();
     match random.below(9) {

@@ -10,6 +10,7 @@ pub struct Lent {
     pub area: Buffer<u32>,
     pub list: Buffer<u32>,
     pub fresh: Buffer<u8>,
+    pub sheet: Buffer<u8>,
     pub out: Buffer<u8>,
 }
 
@@ -22,6 +23,7 @@ impl Lent {
             ("area", self.area.first_difference(&other.area)),
             ("list", self.list.first_difference(&other.list)),
             ("fresh", self.fresh.first_difference(&other.fresh)),
+            ("sheet", self.sheet.first_difference(&other.sheet)),
             ("out", self.out.first_difference(&other.out)),
         ];
         places.into_iter().find_map(|(name, place)| Some((name, place?)))

@@ -10,6 +10,7 @@ mod lent;
 mod made_up;
 mod pair;
 mod sequences;
+mod sheets;
 mod tally;
 
 use archive::Archive;

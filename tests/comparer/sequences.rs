@@ -1,11 +1,12 @@
 //! Random call sequences: batches played in any order with refused steps in between, one after the
-//! other by the next image; areas made up; and damage to everything that is lent.
+//! other by the next image; areas made up; damage to everything that is lent; and sheets.
 
 use crate::calls::{Answer, Call};
 use crate::damage::damage;
 use crate::lent::Lent;
 use crate::made_up;
 use crate::pair::{Difference, Pair};
+use crate::sheets;
 use crate::tally::Tally;
 use archive::{bytes, words, Archive};
 use material::random::{self, Random};
@@ -17,6 +18,9 @@ use plain::refusal::DONE;
 pub fn run(seed: u64, archive: &mut Archive, tally: &mut Tally) -> Result<(), Difference> {
     let random = &mut Random::new(seed);
     archive.null_when_empty = random.percent(50);
+    if random.percent(20) {
+        return sheets::play(random, &mut Pair::new(sheets::nothing_lent(), archive, tally));
+    }
     let cells = made_up::cells(random);
     let programs = made_up::programs(random);
     let pair = &mut Pair::new(first_lent(random, cells, programs), archive, tally);
@@ -36,6 +40,7 @@ fn first_lent(random: &mut Random, cells: usize, programs: usize) -> Lent {
         area: words(&made_up::junk(random, area::words(cells, programs))),
         list: words(&made_up::junk(random, programs + 1)),
         fresh: bytes(&made_up::image(random, cells, fresh_programs)),
+        sheet: bytes(&[]),
         out: bytes(&[0xEE; LONGEST]),
     }
 }

@@ -9,9 +9,9 @@ use plain::steps::{RAW, RAW_WITH_WAR, WAW};
 use std::collections::{BTreeMap, BTreeSet};
 use std::fmt;
 
-/// Each call with the refusals that it can give: document 01, "What each refusal says", and request 3
-/// of document 02.
-fn refusals() -> [(&'static str, Vec<u32>); 8] {
+/// Each call with the refusals that it can give: document 01, "What each refusal says", and requests 1
+/// and 3 of document 02.
+fn refusals() -> [(&'static str, Vec<u32>); 10] {
     let of_image = [refusal::IMAGE_SIZE, refusal::HEADER, refusal::OFFSETS, refusal::INSTRUCTION];
     let program = [&[DONE], &of_image[..], &[refusal::NUMBER]].concat();
     let open = [&[DONE], &of_image[..], &[refusal::TABLE_SIZE, refusal::AREA_SIZE]].concat();
@@ -21,6 +21,9 @@ fn refusals() -> [(&'static str, Vec<u32>); 8] {
     let order = [&later[..], &[refusal::TOO_SHORT, refusal::NO_ORDER]].concat();
     let of_fresh = of_image.map(|refusal| refusal::FRESH + refusal);
     let next_image = [&later[..], &[refusal::TOO_SHORT, refusal::TOO_MANY], &of_fresh].concat();
+    let of_sheet = [refusal::LINE, refusal::HEADER, refusal::OFFSETS, refusal::INSTRUCTION];
+    let image_of = [&[DONE], &of_sheet[..], &[refusal::TOO_SHORT]].concat();
+    let sheet_of = [&[DONE], &of_image[..], &[refusal::TOO_SHORT]].concat();
     [
         ("program", program.clone()),
         ("program_refusal", program),
@@ -30,11 +33,13 @@ fn refusals() -> [(&'static str, Vec<u32>); 8] {
         ("why", why),
         ("order", order),
         ("next_image", next_image),
+        ("image_of", image_of),
+        ("sheet_of", sheet_of),
     ]
 }
 
-/// What may come of a call that is done.
-const OUTCOMES: [&str; 14] = [
+/// What may come of a call that is done, or of one that does not allow a line.
+const OUTCOMES: [&str; 18] = [
     "gathered",
     "rejected",
     "faulted at a load",
@@ -49,6 +54,10 @@ const OUTCOMES: [&str; 14] = [
     "order empty",
     "order rising",
     "order not rising",
+    "line 1 is not allowed",
+    "line 2 is not allowed",
+    "a later line is not allowed",
+    "the last line is unended",
 ];
 
 #[derive(Default)]
@@ -62,10 +71,8 @@ impl Tally {
     pub fn note(&mut self, call: Call, answer: &Answer, lent: &Lent) {
         let refusal = refusal_of(call, answer, lent);
         *self.refusals.entry((name(call), refusal)).or_default() += 1;
-        if refusal == DONE {
-            if let Some(outcome) = outcome(answer, call, lent) {
-                *self.outcomes.entry(outcome).or_default() += 1;
-            }
+        if let Some(outcome) = outcome(refusal, answer, call, lent) {
+            *self.outcomes.entry(outcome).or_default() += 1;
         }
     }
 
@@ -100,6 +107,8 @@ fn name(call: Call) -> &'static str {
         Call::Why(_) => "why",
         Call::Order => "order",
         Call::NextImage => "next_image",
+        Call::ImageOf => "image_of",
+        Call::SheetOf => "sheet_of",
     }
 }
 
@@ -111,12 +120,15 @@ fn refusal_of(call: Call, answer: &Answer, lent: &Lent) -> u32 {
         (_, Answer::Step(step)) => step.refusal,
         (_, Answer::Cause(cause)) => cause.refusal,
         (_, Answer::Count(count)) => count.refusal,
+        (_, Answer::Text(text)) => text.refusal,
         (_, Answer::Part(_)) => unreachable!("only a program is a part"),
     }
 }
 
-fn outcome(answer: &Answer, call: Call, lent: &Lent) -> Option<&'static str> {
+fn outcome(refusal: u32, answer: &Answer, call: Call, lent: &Lent) -> Option<&'static str> {
     match (call, answer) {
+        (_, Answer::Text(text)) if refusal == refusal::LINE => Some(outcome_of_line(text.line, lent)),
+        _ if refusal != DONE => None,
         (_, Answer::Step(step)) => Some(outcome_of_step(step.state, step.detail)),
         (_, Answer::Cause(cause)) => Some(outcome_of_why(cause.reason)),
         (Call::Order, Answer::Count(listed)) => Some(match &lent.list.lent()[..listed.count as usize] {
@@ -148,6 +160,18 @@ fn outcome_of_why(reason: u32) -> &'static str {
         RAW => "why: RAW",
         RAW_WITH_WAR => "why: RAW with WAR",
         _ => unreachable!("no program is carried for anything else"),
+    }
+}
+
+/// Behind the last newline there is an unended line, or none at all, which an empty sheet is refused for.
+fn outcome_of_line(line: u32, lent: &Lent) -> &'static str {
+    let sheet = lent.sheet.lent();
+    let ended = sheet.iter().filter(|&&byte| byte == b'\n').count();
+    match line {
+        _ if line as usize > ended && !sheet.is_empty() => "the last line is unended",
+        1 => "line 1 is not allowed",
+        2 => "line 2 is not allowed",
+        _ => "a later line is not allowed",
     }
 }
 
