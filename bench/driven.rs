@@ -1,10 +1,11 @@
 //! A scenario's calls, made through the archive's driver, which measures them.
 
-use crate::scenarios::{carried_programs, gathered_programs, Scenario, Start};
-use crate::scenarios::{GATHER, NEXT_IMAGE, OPEN, ORDER, SETTLE, WHY};
+use crate::scenarios::{carried_programs, gathered_programs, Scenario, Sheet, Start};
+use crate::scenarios::{GATHER, IMAGE_OF, NEXT_IMAGE, OPEN, ORDER, SETTLE, SHEET_OF, WHY};
 use archive::{bytes, words, Archive, Measure};
 use plain::image::{LONGEST, PROGRAMS};
 use plain::refusal::DONE;
+use plain::sheet;
 
 /// Makes the calls, and notes the place in `CALLS` and the measure of each. Of the calls that are
 /// made once for each program, or for each carried one, only one in so many is measured.
@@ -51,4 +52,21 @@ pub fn run(
     done(ORDER, count.refusal, archive.measured);
     let count = archive.next_image(image, table, area, fresh, out);
     done(NEXT_IMAGE, count.refusal, archive.measured);
+}
+
+/// Reads a sheet and writes that of its image, and notes the place in `CALLS` and the measure of each.
+pub fn run_sheet(
+    archive: &mut Archive,
+    scenario: &Sheet,
+    measure: Measure,
+    mut note: impl FnMut(usize, u64),
+) {
+    let (sheet, out) = (&mut bytes(&scenario.sheet), &mut bytes(&[0; sheet::LONGEST]));
+    archive.measure = measure;
+    assert_eq!(archive.image_of(sheet, out).refusal, scenario.refusal, "{}", scenario.name);
+    note(IMAGE_OF, archive.measured.unwrap_or(0));
+    if let Some(image) = &scenario.image {
+        assert_eq!(archive.sheet_of(&mut bytes(image), out).refusal, DONE, "{}", scenario.name);
+        note(SHEET_OF, archive.measured.unwrap_or(0));
+    }
 }

@@ -2,7 +2,7 @@
 //! link it in the archive's place. The driver keeps the header's rules; it never lends a null pointer
 //! here.
 
-use plain::{Cause, Count, Step};
+use plain::{Cause, Count, Step, Text};
 use std::slice::{from_raw_parts, from_raw_parts_mut};
 
 #[repr(C)]
@@ -13,6 +13,9 @@ pub struct CCause(u32, u32, u32, u32, u32, u32);
 
 #[repr(C)]
 pub struct CCount(u32, u32);
+
+#[repr(C)]
+pub struct CText(u32, u32, u32);
 
 #[repr(C)]
 pub struct CPart(usize, usize);
@@ -121,12 +124,36 @@ pub unsafe extern "C" fn sheetbendle_next_image(
     count(plain::next_image(image, table, area, fresh, from_raw_parts_mut(out, out_bytes)))
 }
 
+#[no_mangle]
+pub unsafe extern "C" fn sheetbendle_image_of(
+    sheet: *const u8,
+    sheet_bytes: usize,
+    out: *mut u8,
+    out_bytes: usize,
+) -> CText {
+    text(plain::image_of(from_raw_parts(sheet, sheet_bytes), from_raw_parts_mut(out, out_bytes)))
+}
+
+#[no_mangle]
+pub unsafe extern "C" fn sheetbendle_sheet_of(
+    image: *const u8,
+    image_bytes: usize,
+    out: *mut u8,
+    out_bytes: usize,
+) -> CText {
+    text(plain::sheet_of(from_raw_parts(image, image_bytes), from_raw_parts_mut(out, out_bytes)))
+}
+
 fn step(Step { refusal, state, detail }: Step) -> CStep {
     CStep(refusal, state, detail)
 }
 
 fn cause(Cause { refusal, reason, cell, program, war_cell, war_program }: Cause) -> CCause {
     CCause(refusal, reason, cell, program, war_cell, war_program)
+}
+
+fn text(Text { refusal, length, line }: Text) -> CText {
+    CText(refusal, length, line)
 }
 
 fn count(Count { refusal, count }: Count) -> CCount {

@@ -2,7 +2,7 @@
 //! each behind a safe function that takes slices.
 
 use crate::Calls;
-use plain::{Cause, Count, Step};
+use plain::{Cause, Count, Step, Text};
 
 pub struct Archive;
 
@@ -27,6 +27,13 @@ struct CCause {
 struct CCount {
     refusal: u32,
     count: u32,
+}
+
+#[repr(C)]
+struct CText {
+    refusal: u32,
+    length: u32,
+    line: u32,
 }
 
 extern "C" {
@@ -87,6 +94,8 @@ extern "C" {
         out: *mut u8,
         out_bytes: usize,
     ) -> CCount;
+    fn sheetbendle_image_of(sheet: *const u8, sheet_bytes: usize, out: *mut u8, out_bytes: usize) -> CText;
+    fn sheetbendle_sheet_of(image: *const u8, image_bytes: usize, out: *mut u8, out_bytes: usize) -> CText;
 }
 
 // Each call below passes pointers and lengths of live slices, which do not overlap: that is all
@@ -148,6 +157,18 @@ impl Calls for Archive {
             )
         })
     }
+
+    #[inline]
+    fn image_of(&self, sheet: &[u8], out: &mut [u8]) -> Text {
+        let (sheet_bytes, out_bytes) = (sheet.len(), out.len());
+        text(unsafe { sheetbendle_image_of(sheet.as_ptr(), sheet_bytes, out.as_mut_ptr(), out_bytes) })
+    }
+
+    #[inline]
+    fn sheet_of(&self, image: &[u8], out: &mut [u8]) -> Text {
+        let (image_bytes, out_bytes) = (image.len(), out.len());
+        text(unsafe { sheetbendle_sheet_of(image.as_ptr(), image_bytes, out.as_mut_ptr(), out_bytes) })
+    }
 }
 
 fn step(CStep { refusal, state, detail }: CStep) -> Step {
@@ -156,6 +177,10 @@ fn step(CStep { refusal, state, detail }: CStep) -> Step {
 
 fn cause(CCause { refusal, reason, cell, program, war_cell, war_program }: CCause) -> Cause {
     Cause { refusal, reason, cell, program, war_cell, war_program }
+}
+
+fn text(CText { refusal, length, line }: CText) -> Text {
+    Text { refusal, length, line }
 }
 
 fn count(CCount { refusal, count }: CCount) -> Count {

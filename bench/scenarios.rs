@@ -1,19 +1,25 @@
-//! What the benchmarks run: a full batch, a typical one, and a hostile one for the order.
+//! What the benchmarks run: a full batch, a typical one, and a hostile one for the order; the longest
+//! sheet, and hostile ones.
 
 use material::assembler::{self, Instruction};
 use material::random::{self, Random, Shape};
+use material::sheets;
 use plain::area::{words, CARRIED, CELLS, COMMITTED, GATHERED};
 use plain::area::{READS, READ_COUNT, SLOT_WORDS, STATE, STORES, STORE_COUNT};
 use plain::image::{INSTRUCTIONS, PROGRAMS};
+use plain::refusal::{DONE, LINE};
 
 /// The calls that are measured.
-pub const CALLS: [&str; 6] = ["open", "gather", "settle", "why", "order", "next_image"];
+pub const CALLS: [&str; 8] =
+    ["open", "gather", "settle", "why", "order", "next_image", "image_of", "sheet_of"];
 pub const OPEN: usize = 0;
 pub const GATHER: usize = 1;
 pub const SETTLE: usize = 2;
 pub const WHY: usize = 3;
 pub const ORDER: usize = 4;
 pub const NEXT_IMAGE: usize = 5;
+pub const IMAGE_OF: usize = 6;
+pub const SHEET_OF: usize = 7;
 
 pub struct Scenario {
     pub name: &'static str,
@@ -39,6 +45,35 @@ impl Scenario {
             Start::MadeUpArea(area) => area.clone(),
         }
     }
+}
+
+/// A sheet that is read, and an image whose sheet is then written, if there is one.
+pub struct Sheet {
+    pub name: String,
+    pub sheet: Vec<u8>,
+    /// What reading the sheet is refused with.
+    pub refusal: u32,
+    pub image: Option<Vec<u8>>,
+}
+
+/// The longest sheet of a good image; and two that are refused at their very end, of about so many
+/// bytes, which is more than the longest has.
+pub fn sheets(bytes: usize) -> Vec<Sheet> {
+    let hostile = |what: &str, sheet: Vec<u8>| {
+        let name = format!("A hostile sheet: {what}, {} bytes", sheet.len());
+        Sheet { name, sheet, refusal: LINE, image: None }
+    };
+    let longest = sheets::longest();
+    vec![
+        Sheet {
+            name: format!("The longest sheet: 64 programs of 32 instructions, {} bytes", longest.len()),
+            sheet: longest,
+            refusal: DONE,
+            image: Some(sheets::longest_image()),
+        },
+        hostile("every line is allowed but the last", sheets::last_line_bad(bytes)),
+        hostile("the last line never ends", sheets::endless_line(bytes)),
+    ]
 }
 
 pub fn all() -> Vec<Scenario> {

@@ -10,6 +10,9 @@ use scenarios::{Scenario, CALLS};
 /// The calls that need only the image.
 const IMAGE_CALLS: [&str; 2] = ["program", "program_refusal"];
 
+/// The bytes of a hostile sheet.
+const HOSTILE: usize = 1 << 20;
+
 /// The deepest stack of those, over all programs of a scenario.
 fn image_calls(archive: &mut Archive, scenario: &Scenario) -> [u64; IMAGE_CALLS.len()] {
     let image = &mut bytes(&scenario.image);
@@ -34,6 +37,10 @@ fn main() {
         driven::run(&mut archive, &scenario, Measure::Stack, 1, note);
         let image_calls = image_calls(&mut archive, &scenario);
         deepest_of_image = std::array::from_fn(|call| image_calls[call].max(deepest_of_image[call]));
+    }
+    for scenario in scenarios::sheets(HOSTILE) {
+        let note = |call: usize, bytes: u64| deepest[call] = bytes.max(deepest[call]);
+        driven::run_sheet(&mut archive, &scenario, Measure::Stack, note);
     }
     println!("Deepest stack of each call in bytes, over all scenarios, found by painting the stack first:");
     println!("from the caller's frame down, the return address included.");

@@ -8,9 +8,10 @@ mod table;
 use linked::Archive;
 use plain::image::{LONGEST, PROGRAMS};
 use plain::refusal::DONE;
-use plain::{Cause, Count, Step};
-use scenarios::{carried_programs, gathered_programs, Scenario, Start};
-use scenarios::{CALLS, GATHER, NEXT_IMAGE, OPEN, ORDER, SETTLE, WHY};
+use plain::sheet;
+use plain::{Cause, Count, Step, Text};
+use scenarios::{carried_programs, gathered_programs, Scenario, Sheet, Start};
+use scenarios::{CALLS, GATHER, IMAGE_OF, NEXT_IMAGE, OPEN, ORDER, SETTLE, SHEET_OF, WHY};
 use std::hint::black_box;
 use std::time::Instant;
 use table::Figures;
@@ -19,6 +20,10 @@ use table::Figures;
 const ROUNDS: usize = 31;
 /// A call that can be repeated is made so often in a row.
 const REPEATS: usize = 20;
+/// The same for a sheet, which takes longer.
+const SHEET_REPEATS: usize = 3;
+/// The bytes of a hostile sheet: a megabyte.
+const HOSTILE: usize = 1 << 20;
 
 /// The calls of one side.
 trait Calls {
@@ -28,6 +33,8 @@ trait Calls {
     fn why(&self, image: &[u8], table: &[u32], area: &[u32], number: usize) -> Cause;
     fn order(&self, image: &[u8], table: &[u32], area: &[u32], list: &mut [u32]) -> Count;
     fn next_image(&self, image: &[u8], table: &[u32], area: &[u32], fresh: &[u8], out: &mut [u8]) -> Count;
+    fn image_of(&self, sheet: &[u8], out: &mut [u8]) -> Text;
+    fn sheet_of(&self, image: &[u8], out: &mut [u8]) -> Text;
 }
 
 struct Plain;
@@ -50,6 +57,12 @@ impl Calls for Plain {
     }
     fn next_image(&self, image: &[u8], table: &[u32], area: &[u32], fresh: &[u8], out: &mut [u8]) -> Count {
         plain::next_image(image, table, area, fresh, out)
+    }
+    fn image_of(&self, sheet: &[u8], out: &mut [u8]) -> Text {
+        plain::image_of(sheet, out)
+    }
+    fn sheet_of(&self, image: &[u8], out: &mut [u8]) -> Text {
+        plain::sheet_of(image, out)
     }
 }
 
@@ -96,6 +109,17 @@ fn run(calls: &impl Calls, scenario: &Scenario, memory: &mut Memory) -> Figures 
     times
 }
 
+/// Reads a sheet and writes that of its image, on one side, and takes the nanoseconds of each.
+fn run_sheet(calls: &impl Calls, scenario: &Sheet, out: &mut [u8]) -> Figures {
+    let mut times = [None; CALLS.len()];
+    let image_of = |_| assert_eq!(black_box(calls.image_of(&scenario.sheet, out)).refusal, scenario.refusal);
+    times[IMAGE_OF] = Some(per_call(SHEET_REPEATS, image_of));
+    if let Some(image) = &scenario.image {
+        times[SHEET_OF] = Some(per_call(SHEET_REPEATS, |_| done(calls.sheet_of(image, out).refusal)));
+    }
+    times
+}
+
 /// The time of so many calls in a row, per call.
 fn per_call(count: usize, mut call: impl FnMut(usize)) -> f64 {
     let start = Instant::now();
@@ -109,21 +133,35 @@ fn done(refusal: u32) {
     assert_eq!(black_box(refusal), DONE, "no call of the benchmark is refused");
 }
 
-/// The medians of both sides, which take turns at going first.
+/// The figures of a batch on both sides, which leave the same memory.
 fn compare(scenario: &Scenario) -> [Figures; 2] {
-    let mut memories = [Memory::of(scenario), Memory::of(scenario)];
+    let (mut memory, mut other) = (Memory::of(scenario), Memory::of(scenario));
+    let figures = alternate(|| run(&Plain, scenario, &mut memory), || run(&Archive, scenario, &mut other));
+    assert!(memory == other, "both sides leave the same memory");
+    figures
+}
+
+/// The figures of a sheet on both sides, which leave the same output.
+fn compare_sheet(scenario: &Sheet) -> [Figures; 2] {
+    let (mut out, mut other) = (vec![0; sheet::LONGEST], vec![0; sheet::LONGEST]);
+    let figures =
+        alternate(|| run_sheet(&Plain, scenario, &mut out), || run_sheet(&Archive, scenario, &mut other));
+    assert!(out == other, "both sides leave the same output");
+    figures
+}
+
+/// The medians of both sides, which take turns at going first.
+fn alternate(mut run_plain: impl FnMut() -> Figures, mut run_other: impl FnMut() -> Figures) -> [Figures; 2] {
     let [mut plain, mut other] = [Vec::new(), Vec::new()];
     for round in 0..ROUNDS {
-        let [plain_memory, other_memory] = &mut memories;
         if round % 2 == 0 {
-            plain.push(run(&Plain, scenario, plain_memory));
-            other.push(run(&Archive, scenario, other_memory));
+            plain.push(run_plain());
+            other.push(run_other());
         } else {
-            other.push(run(&Archive, scenario, other_memory));
-            plain.push(run(&Plain, scenario, plain_memory));
+            other.push(run_other());
+            plain.push(run_plain());
         }
     }
-    assert!(memories[0] == memories[1], "both sides leave the same memory");
     [medians(&plain), medians(&other)]
 }
 
@@ -140,5 +178,8 @@ fn main() {
     println!("No buffer is cleared first: each call finds what the call before it left, in a warm cache.");
     for scenario in scenarios::all() {
         table::print(scenario.name, compare(&scenario));
+    }
+    for scenario in scenarios::sheets(HOSTILE) {
+        table::print(&scenario.name, compare_sheet(&scenario));
     }
 }
