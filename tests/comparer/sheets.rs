@@ -41,7 +41,7 @@ pub fn play(random: &mut Random, pair: &mut Pair) -> Result<(), Difference> {
     read(random, pair, &limit)
 }
 
-/// Memory for a batch, none of which the two calls take.
+/// Empty buffers: what the two calls do not take stays so.
 pub fn nothing_lent() -> Lent {
     Lent {
         image: bytes(&[]),
