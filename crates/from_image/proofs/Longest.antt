@@ -22,9 +22,11 @@ use Rattle.image.specs.Image.{byteAt, countOf, ruleByte, offsetOf, bytesOf, par
 use Rattle.image.specs.Refusals as refusal
 use Rattle.image.specs.Refusals.{passes}
 use Rattle.image.proofs.Laws.{accepted}
-use Rattle.image.proofs.Refusing.{none-is, goes-on, first-refuses, first-passes}
+use Rattle.image.proofs.Refusing.{none-is, none-after, goes-on, first-refuses, first-passes, unless-either}
+use Rattle.sheet.specs.declared.Written.the-variants.{Refused}
+use Rattle.sheet.specs.Answers.{numbersOfWritten}
 use Rattle.sheet.specs.Sheet.{names, nameOf, sheetText}
-use Rattle.from_image.specs.FromImage.{instructionAt, programLines, sheetOfImage, sheetOfRefusal}
+use Rattle.from_image.specs.FromImage.{instructionAt, programLines, sheetOfImage, sheetOfRefusal, sheetOfAnswer}
 use Rattle.from_image.specs.Typing.{Good}
 use Rattle.from_image.specs.Longest.{farLine, nearLine, farLines, longestProgram, longestSheet}
 use Rattle.from_image.proofs.Lines.{instruction-length}
@@ -183,3 +185,9 @@ module _ (image : List ℕ) (bytes : (i : ℕ) → getD image i 0 < 256) where
           let fits = le-leb (length (sheetOfImage image)) (length out) (omega (arith, sheet-short none)) in
           sym (none-is none ∙ first-passes refl none (goes-on refusal.tooShort fits refl))
       go (inr e) = sym (first-refuses _ refl (eqb-false (refusalOf image .number) 0 e))
+
+  -- a length that is answered is a sheet's
+  pub sheet-small : (out : List ℕ) → numbersOfWritten (sheetOfAnswer image out) .length ≤ longestSheet
+  unfolding sheetOfAnswer sheetOfRefusal
+  sheet-small out =
+      unless-either (λ x. numbersOfWritten x .length ≤ longestSheet) (sheetOfRefusal image out) Refused _ (omega arith) (λ e. sheet-short (none-after (refusalOf image) _ e .0))

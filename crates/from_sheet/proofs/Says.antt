@@ -1,6 +1,6 @@
 -- The checks of the call that reads a sheet: what its sizes show, and what the call answers and leaves. Assumes nothing.
 use mathlib.Core.Path.{_≡_, refl, sym, ap, _∙_}
-use mathlib.Core.Bool.{Bool, true, false, _&&_}
+use mathlib.Core.Bool.{Bool, true, false, cond}
 use mathlib.Core.List.{List, [], _∷_, _++_}
 use Prim.Native.Nat.{ℕ, _+_, _*_, _≤_, _<_}
 use native.Mathlib.Omega.{arith}
@@ -12,9 +12,10 @@ use Rattle.text.proofs.Writing.{pasted-front}
 use Rattle.image.specs.Limits.{maxPrograms, maxInstructions, instructionBytes, headBytes, maxBytes}
 use Rattle.image.specs.declared.Refusal.{Refusal}
 use Rattle.image.specs.Refusals as refusal
-use Rattle.image.proofs.Refusing.{fails, goes-on, none-fails, first-refuses, first-passes, number-of, none-is, refused-as, done-as}
+use Rattle.image.proofs.Refusing.{fails, goes-on, none-fails, first-refuses, first-passes, number-of, none-is, none-after, refused-as, done-as, unless-either}
 use Rattle.writer.proofs.Programs.{length-image}
 use Rattle.sheet.specs.declared.Written.the-variants.{Refused, BadLine, Length}
+use Rattle.sheet.specs.Answers.{numbersOfWritten}
 use Rattle.sheet.specs.Sheet.{linesOf, badLine, ruleOf, leading, programs}
 use Rattle.from_sheet.specs.declared.counting.Sizes.{Sizes}
 use Rattle.from_sheet.specs.FromSheet.{programsOf, imageOfSheet, fewPrograms, shortPrograms, goodPrograms, programsRefusal, sheetRefusal, imageOfRefusal}
@@ -24,6 +25,22 @@ use Rattle.from_sheet.proofs.Passing.{lines-all}
 use Rattle.from_sheet.proofs.Pieces.{all-bodies}
 use Rattle.from_sheet.proofs.Sizing.{tally-programs, tally-bytes, tally-longest, joined-short}
 use Rattle.from_sheet.proofs.ReadPrograms.{all-good, all-short}
+
+-- ---- what checks 2 to 4 show
+
+programs-shown : (ps : List (List ℕ)) → programsRefusal ps .number ≡ 0 → (fewPrograms ps ≡ true) × (shortPrograms ps ≡ true)
+unfolding programsRefusal
+programs-shown ps passed =
+    let a = none-fails (fewPrograms ps) refusal.header _ (λ e. omega arith) passed in
+    let b = none-fails (shortPrograms ps) refusal.offsets _ (λ e. omega arith) (a .1) in
+    (a .0, b .0)
+
+-- the image is not too long
+pub image-short : (sheet : List ℕ) → programsRefusal (programsOf sheet) .number ≡ 0 → length (imageOfSheet sheet) ≤ maxBytes
+unfolding imageOfSheet fewPrograms
+image-short sheet passed =
+    let p = programs-shown (programsOf sheet) passed in
+    omega (arith, leb-true (length (programsOf sheet)) maxPrograms (p .0), joined-short (programsOf sheet) (p .1), length-image (ruleOf (linesOf sheet)) (programsOf sheet))
 
 -- ---- what the sizes of a sheet show
 
@@ -60,26 +77,14 @@ module _ {sheet : List ℕ} {s : Sizes} (z : Sized sheet s) where
       rw (← lines-all sheet)
       (omega (arith, bytes, program-count, ap length (all-bodies (linesFrom 0 sheet) (z .nothing-leads)), length-image (ruleOf (linesFrom 0 sheet)) (programs (linesFrom 0 sheet))))
 
-  -- where checks 2 to 4 have passed, it is not too long
+  -- where checks 2 to 4 have passed, there are not too many, and the image can be written where it has room
   module _ (passed : programsRefusal (programsOf sheet) .number ≡ 0) where
-    shown : (fewPrograms (programsOf sheet) ≡ true) × (shortPrograms (programsOf sheet) ≡ true)
-    unfolding programsRefusal
-    shown =
-        let a = none-fails (fewPrograms (programsOf sheet)) refusal.header _ (λ e. omega arith) passed in
-        let b = none-fails (shortPrograms (programsOf sheet)) refusal.offsets _ (λ e. omega arith) (a .1) in
-        (a .0, b .0)
-
     pub few-programs : s .programs ≤ maxPrograms
-    few-programs = leb-true (s .programs) maxPrograms (few-are ∙ shown .0)
-
-    pub image-short : length (imageOfSheet sheet) ≤ maxBytes
-    unfolding imageOfSheet
-    image-short =
-        omega (arith, few-programs, program-count ∙ ap length same-programs, joined-short (programsOf sheet) (shown .1), length-image (ruleOf (linesOf sheet)) (programsOf sheet))
+    few-programs = leb-true (s .programs) maxPrograms (few-are ∙ programs-shown (programsOf sheet) passed .0)
 
     pub writable : {out : List ℕ} → length (imageOfSheet sheet) ≤ length out → Writable sheet out (s .programs)
     writable h =
-        record { count = program-count; few = few-programs; nothing-leads = z .nothing-leads; short = image-short; room = record { fits = omega arith } }
+        record { count = program-count; few = few-programs; nothing-leads = z .nothing-leads; short = image-short sheet passed; room = record { fits = omega arith } }
 
 -- ---- what the call says
 
@@ -125,3 +130,17 @@ module _ (sheet out : List ℕ) where
             answer = done-as (refusedBy sheet) e refl (ap Length (omega (arith, w .next)));
             output = done-as (λ x. out) e refl (w .bytes ∙ pasted-front out (imageOfSheet sheet));
           }
+
+  -- a length that is answered is an image's
+  pub image-small : numbersOfWritten (imageOfAnswer sheet out) .length ≤ maxBytes
+  unfolding imageOfAnswer imageOfRefusal sheetRefusal refusedBy
+  image-small =
+      unless-either (λ x. numbersOfWritten x .length ≤ maxBytes) (imageOfRefusal sheet out) (refusedBy sheet) _
+      (go (eqb (badLine sheet) 0))
+      (λ e.
+      let p = none-after (sheetRefusal sheet) _ e .0 in
+      image-short sheet (none-fails (eqb (badLine sheet) 0) refusal.line _ (λ f. omega arith) p .1))
+    where
+      go : (b : Bool) → numbersOfWritten (cond b (Refused (imageOfRefusal sheet out)) (BadLine (badLine sheet))) .length ≤ maxBytes
+      go true = omega arith
+      go false = omega arith

@@ -8,6 +8,7 @@
 //   next_image   makes the next batch's image: the carried programs, then those of a fresh image.
 //
 // Once all are settled, `why` says why a program was carried, and `comes_before` before whom a program comes that read a cell as it was.
+// A sheet is an image as a text that can be typed: `image_of` reads a sheet and writes its image, `sheet_of` reads an image and writes its sheet.
 // Beside these, `program` hands back one program as a part of the image, and `program_refusal` says why it does not.
 // `second_rule` says whether Rule 2 is in force; `of_gathered`, `of_settled` and `of_why` give the numbers of an answer.
 // Every call answers for every input. A refusal carries its number from document 01 and changes nothing that was lent; 0 is none.
@@ -19,6 +20,9 @@ pub use causes::Cause;
 pub use causes::Why;
 pub use causes::comes_before;
 pub use causes::why;
+pub use from_image::LONGEST_SHEET;
+pub use from_image::sheet_of;
+pub use from_sheet::image_of;
 pub use image::Image;
 pub use image::Refusal;
 pub use image::program;
@@ -32,6 +36,7 @@ pub use numbers::StepNumbers;
 pub use numbers::of_gathered;
 pub use numbers::of_settled;
 pub use numbers::of_why;
+pub use sheet::Written;
 pub use steps::Gathered;
 pub use steps::Reason;
 pub use steps::Settled;

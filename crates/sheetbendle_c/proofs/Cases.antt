@@ -1,7 +1,7 @@
 -- Document 01, "What each refusal says", tried by computation on the calls for C: each number stands under its own name, and the memory is what the call
 -- leaves. Assumes nothing.
 use Prim.Native.Nat.{ℕ}
-use mathlib.Core.Path.{refl}
+use mathlib.Core.Path.{_≡_, refl}
 use mathlib.Core.List.{List, [], _∷_, _++_}
 use lib.ListN.{replicate}
 use Rattle.image.specs.Refusals.{refusing, noCount, counted}
@@ -12,7 +12,10 @@ use Rattle.steps.specs.Opened as steps
 use Rattle.causes.specs.Opened as causes
 use Rattle.listing.specs.Opened as listing
 use Rattle.carry.specs.Opened as carry
-use Rattle.sheetbendle_c.specs.Calls.{PartTells, ProgramRefusalTells, OpenTells, CountTells, GatherTells, SettleTells, WhyTells, OrderTells, NextTells}
+use Rattle.text.specs.Ascii.{ascii}
+use Rattle.from_sheet.specs.Opened as from-sheet
+use Rattle.from_image.specs.Opened as from-image
+use Rattle.sheetbendle_c.specs.Calls.{PartTells, ProgramRefusalTells, OpenTells, CountTells, GatherTells, SettleTells, WhyTells, OrderTells, NextTells, lineShown, TextTells, ImageOfTells, SheetOfTells}
 
 -- of two programs, number 1 begins at byte 14 and has 8 bytes; there is no number 2
 abbrev two : List ℕ
@@ -66,3 +69,25 @@ order-tells = record { numbers = record { refusal = refl; count = refl }; entrie
 next-tells : NextTells (image 1 ([] ∷ [])) (5 ∷ []) (storing 5) (image 2 []) (replicate 9 9) (record { refusal = 0; count = 8 }) (image 2 ([] ∷ []) ++ (9 ∷ []))
 unfolding carry.opened
 next-tells = record { numbers = record { refusal = refl; count = refl }; bytes = refl }
+
+-- document 02, ask 1: the length, or the refusal and of 51 the line; a line beyond 32 bits is shown as the last that they have
+lines-shown : lineShown 4294967295 ∷ lineShown 4294967296 ∷ lineShown 8589934592 ∷ [] ≡ 4294967295 ∷ 4294967295 ∷ 4294967295 ∷ []
+lines-shown = refl
+
+image-of-tells : ImageOfTells (ascii "rule 2\n") (replicate 7 9) (record { refusal = 0; length = 6; line = 0 }) (0 ∷ 0 ∷ 2 ∷ 0 ∷ 6 ∷ 0 ∷ 9 ∷ [])
+    × ImageOfTells (ascii "rule 2\nprogram\nend\n") (9 ∷ []) (record { refusal = 51; length = 0; line = 3 }) (9 ∷ [])
+    × ImageOfTells (ascii "rule 2\n") (9 ∷ []) (record { refusal = 10; length = 0; line = 0 }) (9 ∷ [])
+unfolding from-sheet.opened
+image-of-tells = (
+  record { numbers = record { refusal = refl; extent = refl; line = refl }; bytes = refl },
+  record { numbers = record { refusal = refl; extent = refl; line = refl }; bytes = refl },
+  record { numbers = record { refusal = refl; extent = refl; line = refl }; bytes = refl },
+)
+
+sheet-of-tells : SheetOfTells (image 2 []) (replicate 8 9) (record { refusal = 0; length = 7; line = 0 }) (ascii "rule 2\n" ++ (9 ∷ []))
+    × SheetOfTells [] (9 ∷ []) (record { refusal = 1; length = 0; line = 0 }) (9 ∷ [])
+unfolding from-image.opened
+sheet-of-tells = (
+  record { numbers = record { refusal = refl; extent = refl; line = refl }; bytes = refl },
+  record { numbers = record { refusal = refl; extent = refl; line = refl }; bytes = refl },
+)

@@ -3,7 +3,7 @@ use Prim.Native.Nat.{ℕ, _≤_, _<_, _^_}
 use mathlib.Core.Path.{_≡_, sym, subst}
 use mathlib.Core.List.{List}
 use native.Mathlib.Omega.{arith}
-use lib.ListN.{length}
+use lib.ListN.{length, getD}
 use lib.Dec.{leb}
 use borrow.Author.Tests.{leb-true, eqb-true}
 use Rattle.base.specs.Words.{count}
@@ -32,10 +32,18 @@ use Rattle.carry.specs.declared.Next.the-variants as carrying
 use Rattle.carry.specs.Next.{nextImage, nextRefusal, nextAnswer, numbersOfNext, NextSays}
 use Rattle.carry.proofs.Nexts.{next-good}
 use Rattle.numbers.specs.declared.StepNumbers.{StepNumbers}
+use Rattle.sheet.specs.declared.Written.{Written}
+use Rattle.sheet.specs.Answers.{numbersOfWritten}
+use Rattle.from_sheet.specs.FromSheet.{imageOfAnswer, ImageOfSays}
+use Rattle.from_sheet.proofs.Says.{image-small}
+use Rattle.from_image.specs.FromImage.{sheetOfAnswer, SheetOfSays}
+use Rattle.from_image.specs.Longest.{longestSheet}
+use Rattle.from_image.proofs.Longest.{sheet-small}
 use Rattle.numbers.specs.declared.CauseNumbers.{CauseNumbers}
 use Rattle.numbers.specs.Numbers.{Tells, CauseTells}
 use Rattle.sheetbendle_c.specs.declared.CountNumbers.{CountNumbers}
-use Rattle.sheetbendle_c.specs.Calls.{CountTells, GatherTells, SettleTells, WhyTells, OrderTells, NextTells}
+use Rattle.sheetbendle_c.specs.Calls.{CountTells, GatherTells, SettleTells, WhyTells, OrderTells, NextTells, TextTells, ImageOfTells, SheetOfTells}
+use Rattle.sheetbendle_c.specs.declared.TextNumbers as declared
 
 -- ---- the numbers are the answer's
 
@@ -62,6 +70,16 @@ pub next-tells : (image t a fresh out : List ℕ) (answer : Next) (out′ : List
     → CountTells (numbersOfNext answer) r → NextTells image t a fresh out r out′
 next-tells image t a fresh out answer out′ r says tells =
     record { numbers = subst (λ (x : Next). CountTells (numbersOfNext x) r) (says .answer) tells; bytes = says .bytes }
+
+pub image-of-tells : (sheet out : List ℕ) (answer : Written) (out′ : List ℕ) (r : declared.TextNumbers) → ImageOfSays sheet out answer out′
+    → TextTells (numbersOfWritten answer) r → ImageOfTells sheet out r out′
+image-of-tells sheet out answer out′ r says tells =
+    record { numbers = subst (λ (x : Written). TextTells (numbersOfWritten x) r) (says .answer) tells; bytes = says .output }
+
+pub sheet-of-tells : (image out : List ℕ) (answer : Written) (out′ : List ℕ) (r : declared.TextNumbers) → SheetOfSays image out answer out′
+    → TextTells (numbersOfWritten answer) r → SheetOfTells image out r out′
+sheet-of-tells image out answer out′ r says tells =
+    record { numbers = subst (λ (x : Written). TextTells (numbersOfWritten x) r) (says .answer) tells; bytes = says .output }
 
 -- ---- the counts are small: an order has at most 64 entries, an image at most 8326 bytes
 
@@ -92,3 +110,13 @@ unfolding nextAnswer
 next-small image t a fresh out answer out′ says =
     subst (λ (x : Next). numbersOfNext x .count < 2 ^ 32) (sym (says .answer))
     (unless-either (λ x. numbersOfNext x .count < 2 ^ 32) (nextRefusal image t a fresh out) carrying.Refused _ (omega arith) (short-next image t a fresh out))
+
+pub image-of-small : (sheet out : List ℕ) (answer : Written) (out′ : List ℕ) → ImageOfSays sheet out answer out′ → numbersOfWritten answer .length < 2 ^ 32
+image-of-small sheet out answer out′ says =
+    subst (λ (x : Written). numbersOfWritten x .length < 2 ^ 32) (sym (says .answer)) (omega (arith, image-small sheet out))
+
+pub sheet-of-small : (image out : List ℕ) → ((i : ℕ) → getD image i 0 < 256) → (answer : Written) (out′ : List ℕ) → SheetOfSays image out answer out′
+    → numbersOfWritten answer .length < 2 ^ 32
+unfolding longestSheet
+sheet-of-small image out bytes answer out′ says =
+    subst (λ (x : Written). numbersOfWritten x .length < 2 ^ 32) (sym (says .answer)) (omega (arith, sheet-small image bytes out))

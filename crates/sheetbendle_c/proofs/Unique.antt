@@ -28,6 +28,13 @@ use Rattle.sheetbendle_c.proofs.sheetbendle_order.Kinds as order-kinds
 use Rattle.sheetbendle_c.proofs.sheetbendle_order.Reads as order
 use Rattle.sheetbendle_c.proofs.sheetbendle_next_image.Kinds as next-kinds
 use Rattle.sheetbendle_c.proofs.sheetbendle_next_image.Reads as next
+use Rattle.sheet.specs.Answers.{TextNumbers}
+use Rattle.sheetbendle_c.specs.declared.TextNumbers as declared
+use Rattle.sheetbendle_c.specs.Calls.{TextTells}
+use Rattle.sheetbendle_c.proofs.sheetbendle_image_of.Kinds as image-of-kinds
+use Rattle.sheetbendle_c.proofs.sheetbendle_image_of.Reads as image-of
+use Rattle.sheetbendle_c.proofs.sheetbendle_sheet_of.Kinds as sheet-of-kinds
+use Rattle.sheetbendle_c.proofs.sheetbendle_sheet_of.Reads as sheet-of
 
 -- structs of numbers are equal where their numbers are
 part-once : (image : List ℕ) (k : ℕ) (x y : PartNumbers) → PartTells image k x → PartTells image k y → x ≡ y
@@ -35,6 +42,10 @@ part-once image k x y p q = λ i. record { start = (p .start ∙ sym (q .start))
 
 count-once : (n : Counted) (x y : CountNumbers) → CountTells n x → CountTells n y → x ≡ y
 count-once n x y p q = λ i. record { refusal = (p .refusal ∙ sym (q .refusal)) i; count = (p .count ∙ sym (q .count)) i }
+
+text-once : (n : TextNumbers) (x y : declared.TextNumbers) → TextTells n x → TextTells n y → x ≡ y
+text-once n x y p q =
+    λ i. record { refusal = (p .refusal ∙ sym (q .refusal)) i; length = (p .extent ∙ sym (q .extent)) i; line = (p .line ∙ sym (q .line)) i }
 
 pub program-unique : Unique {A = PartNumbers} 1 program-kinds.ps program-kinds.r (λ κs x s. x) program.Post
 program-unique κs a x y s t p q = part-once _ _ x y p q
@@ -60,3 +71,9 @@ order-unique κs a x y s t p q = cc (count-once _ x y (p .numbers) (q .numbers))
 
 pub next-image-unique : Unique {A = CountNumbers × List ℕ} 5 next-kinds.ps next-kinds.r (λ κs x s. (x, now (s .1 .1 .1 .1 .0))) next.Post
 next-image-unique κs a x y s t p q = cc (count-once _ x y (p .numbers) (q .numbers))
+
+pub image-of-unique : Unique {A = declared.TextNumbers × List ℕ} 2 image-of-kinds.ps image-of-kinds.r (λ κs x s. (x, now (s .1 .0))) image-of.Post
+image-of-unique κs a x y s t p q = cc (text-once _ x y (p .numbers) (q .numbers))
+
+pub sheet-of-unique : Unique {A = declared.TextNumbers × List ℕ} 2 sheet-of-kinds.ps sheet-of-kinds.r (λ κs x s. (x, now (s .1 .0))) sheet-of.Post
+sheet-of-unique κs a x y s t p q = cc (text-once _ x y (p .numbers) (q .numbers))

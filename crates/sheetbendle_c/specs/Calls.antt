@@ -1,5 +1,5 @@
 -- The calls for C: each returns the numbers of the Rattle call under it, and leaves the memory that it leaves. Assumes nothing.
-use Prim.Native.Nat.{ℕ}
+use Prim.Native.Nat.{ℕ, min}
 use mathlib.Core.Path.{_≡_}
 use mathlib.Core.List.{List}
 use lib.ListN.{length}
@@ -13,11 +13,15 @@ use Rattle.steps.specs.Settling.{settleAnswer, settleTable, settleArea}
 use Rattle.causes.specs.Why.{whyAnswer, numbersOfWhy}
 use Rattle.listing.specs.Listing.{orderAnswer, orderList, numbersOfListed}
 use Rattle.carry.specs.Next.{nextAnswer, nextOut, numbersOfNext}
+use Rattle.sheet.specs.Answers.{TextNumbers, numbersOfWritten}
+use Rattle.from_sheet.specs.FromSheet.{imageOfAnswer, imageOfOutput}
+use Rattle.from_image.specs.FromImage.{sheetOfAnswer, sheetOfOutput}
 use Rattle.numbers.specs.declared.StepNumbers.{StepNumbers}
 use Rattle.numbers.specs.declared.CauseNumbers.{CauseNumbers}
 use Rattle.numbers.specs.Numbers.{Tells, CauseTells}
 use Rattle.sheetbendle_c.specs.declared.PartNumbers.{PartNumbers}
 use Rattle.sheetbendle_c.specs.declared.CountNumbers.{CountNumbers}
+use Rattle.sheetbendle_c.specs.declared.TextNumbers as declared
 
 -- of a program: where its part of the image begins and how long it is, 0 and 0 on a refusal
 pub record PartTells (image : List ℕ) (k : ℕ) (r : PartNumbers) : Type 0 where
@@ -55,3 +59,20 @@ pub record OrderTells (image t a list : List ℕ) (r : CountNumbers) (list′ : 
 pub record NextTells (image t a fresh out : List ℕ) (r : CountNumbers) (out′ : List ℕ) : Type 0 where
   pub numbers : CountTells (numbersOfNext (nextAnswer image t a fresh out)) r
   pub bytes : out′ ≡ nextOut image t a fresh out
+
+-- of a text: a line's number is shown as far as 32 bits go, which only a sheet of 4 GiB and more passes
+abbrev pub lineShown : ℕ → ℕ
+lineShown line = min line 4294967295
+
+pub record TextTells (numbers : TextNumbers) (r : declared.TextNumbers) : Type 0 where
+  pub refusal : r .refusal ≡ numbers .refusal
+  pub extent : r .length ≡ numbers .length
+  pub line : r .line ≡ lineShown (numbers .line)
+
+pub record ImageOfTells (sheet out : List ℕ) (r : declared.TextNumbers) (out′ : List ℕ) : Type 0 where
+  pub numbers : TextTells (numbersOfWritten (imageOfAnswer sheet out)) r
+  pub bytes : out′ ≡ imageOfOutput sheet out
+
+pub record SheetOfTells (image out : List ℕ) (r : declared.TextNumbers) (out′ : List ℕ) : Type 0 where
+  pub numbers : TextTells (numbersOfWritten (sheetOfAnswer image out)) r
+  pub bytes : out′ ≡ sheetOfOutput image out

@@ -1,9 +1,12 @@
 // The library for C: include/sheetbendle.h declares these functions. A slice is a pointer and a length there.
-ghost use Prim.Native.Nat.{_^_, _<_};
+ghost use mathlib.Core.Path.{_≡_};
+ghost use Prim.Native.Nat.{_^_, _<_, min};
 ghost use Rattle.listing.specs.Listing.{numbersOfListed};
 ghost use Rattle.carry.specs.Next.{numbersOfNext};
 ghost use Rattle.sheetbendle_c.specs.Calls.{PartTells, ProgramRefusalTells, OpenTells, GatherTells, SettleTells};
 ghost use Rattle.sheetbendle_c.specs.Calls.{WhyTells, CountTells, OrderTells, NextTells};
+ghost use Rattle.sheet.specs.Answers.{numbersOfWritten};
+ghost use Rattle.sheetbendle_c.specs.Calls.{lineShown, TextTells, ImageOfTells, SheetOfTells};
 
 // Where a program's part of the image begins, and how long it is.
 #[repr(C)]
@@ -17,6 +20,14 @@ pub struct PartNumbers {
 pub struct CountNumbers {
     pub refusal: u32,
     pub count: u32,
+}
+
+// The refusal, or 0 with the length written; of refusal 51 also the line.
+#[repr(C)]
+pub struct TextNumbers {
+    pub refusal: u32,
+    pub length: u32,
+    pub line: u32,
 }
 
 #[no_mangle]
@@ -135,4 +146,53 @@ pub extern "C" fn sheetbendle_next_image(
     ensures { λ r. ⌜ NextTells (now (image .entry)) (now (table .entry)) (now (area .entry)) (now (fresh .entry)) (now (out .entry)) r (now (out .exit)) ⌝ }
 {
     of_next(carry::next_image(image, table, area, fresh, out))
+}
+
+// A line's number as far as 32 bits show it.
+fn line_shown(line: usize) -> u32
+    ensures { λ r. ⌜ r ≡ lineShown line ⌝ }
+{
+    if line < 4294967296 {
+        line as u32
+    } else {
+        4294967295
+    }
+}
+
+// The numbers of an answer that has a text's length.
+fn of_written(answer: sheet::Written) -> TextNumbers
+    requires { ⌜ numbersOfWritten answer .length < 2 ^ 32 ⌝ }
+    ensures { λ r. ⌜ TextTells (numbersOfWritten answer) r ⌝ }
+{
+    match answer {
+        sheet::Written::Refused(refusal) => TextNumbers {
+            refusal: refusal.number,
+            length: 0,
+            line: 0,
+        },
+        sheet::Written::BadLine(line) => TextNumbers {
+            refusal: image::Refusal::LINE.number,
+            length: 0,
+            line: line_shown(line),
+        },
+        sheet::Written::Length(length) => TextNumbers {
+            refusal: 0,
+            length: length as u32,
+            line: 0,
+        },
+    }
+}
+
+#[no_mangle]
+pub extern "C" fn sheetbendle_image_of(sheet: &[u8], out: &mut [u8]) -> TextNumbers
+    ensures { λ r. ⌜ ImageOfTells (now (sheet .entry)) (now (out .entry)) r (now (out .exit)) ⌝ }
+{
+    of_written(from_sheet::image_of(sheet, out))
+}
+
+#[no_mangle]
+pub extern "C" fn sheetbendle_sheet_of(image: &[u8], out: &mut [u8]) -> TextNumbers
+    ensures { λ r. ⌜ SheetOfTells (now (image .entry)) (now (out .entry)) r (now (out .exit)) ⌝ }
+{
+    of_written(from_image::sheet_of(image, out))
 }

@@ -2,6 +2,7 @@
 use mathlib.Core.Path.{_≡_, ap, _∙_}
 use Prim.Native.Nat.{ℕ, _+_, _*_}
 use native.Mathlib.Omega.{arith}
+use denote.Ref.{now}
 use Rattle.from_sheet.proofs.Says.{image-long, few-programs, image-short}
 use Rattle.from_sheet.proofs.image_length.Statement.{statement}
 use Rattle.from_sheet.proofs.image_length.Tie as tie
@@ -14,6 +15,6 @@ image-length-spec =
     tie.close
     (tie.spec
     (λ c κs. omega (arith, few-programs (c .before .pre .0) (c .before .pre .1)))
-    (λ c. let s = start-of (c .before) in omega (arith, image-long (s .pre .0), image-short (s .pre .0) (s .pre .1)))
-    (λ c. let s = start-of (c .before) in omega (arith, c .before .head-bytes .ensures, image-long (s .pre .0), image-short (s .pre .0) (s .pre .1)))
+    (λ c. let s = start-of (c .before) in omega (arith, image-long (s .pre .0), image-short (now (s .args .sheet)) (s .pre .1)))
+    (λ c. let s = start-of (c .before) in omega (arith, c .before .head-bytes .ensures, image-long (s .pre .0), image-short (now (s .args .sheet)) (s .pre .1)))
     (λ c. let s = start-of (c .before) in ap (λ (k : ℕ). k + 4 * s .args .sizes .instructions) (c .before .head-bytes .ensures) ∙ image-long (s .pre .0)))
