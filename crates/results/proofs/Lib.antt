@@ -1,1 +1,4 @@
+pub mod Lines
+pub mod Orders
+pub mod Short
 pub mod Cases
