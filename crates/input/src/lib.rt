@@ -1,9 +1,9 @@
 // The input of a batch (document 01, "Bench sheet"): T in two bytes, T cells of four bytes, then the image. It is read from standard input, and taken apart.
 ghost use mathlib.Core.Path.{_≡_};
-ghost use Prim.Native.Nat.{_+_, _*_, _≤_, _<_};
+ghost use Prim.Native.Nat.{_+_, _≤_, _<_};
 ghost use lib.ListN.{length};
 ghost use Rattle.io.specs.Counts.{Counts};
-ghost use Rattle.image.specs.Limits.{maxCells};
+ghost use Rattle.input.specs.Prefix.{prefixBytes, wordAt, tableIn, imageIn, cellsOf};
 
 const IN: i32 = 0;
 
@@ -42,15 +42,16 @@ pub fn read_input(program: &[u8], input: &mut [u8]) -> usize
     there
 }
 
+// A byte as a word.
 fn wide(byte: u8) -> u32
-    ensures { λ r. ⌜ r < 256 ⌝ }
+    ensures { λ r. ⌜ (r ≡ byte) × (r < 256) ⌝ }
 {
     byte as u32
 }
 
-// The table's size, 0 where the input is shorter than the prefix needs or the size is outside 1 to 256.
+// T, where the prefix is good: the input has the bytes that it needs, and T is within 1 to 256. Otherwise 0.
 pub fn cells_of(input: &[u8]) -> usize
-    ensures { λ r. ⌜ (r ≤ maxCells) × ((r ≡ 0 → ⊥) → 2 + 4 * r ≤ length (now (input .entry))) ⌝ }
+    ensures { λ r. ⌜ r ≡ cellsOf (now (input .entry)) ⌝ }
 {
     if input.len() < COUNT_BYTES {
         return 0;
@@ -65,9 +66,10 @@ pub fn cells_of(input: &[u8]) -> usize
     cells
 }
 
-// A cell of four bytes, low first.
-fn cell_at(input: &[u8], at: usize) -> u32
+// The word of four bytes at a place, low first.
+fn word_at(input: &[u8], at: usize) -> u32
     requires { ⌜ at + 4 ≤ length (now input) ⌝ }
+    ensures { λ r. ⌜ r ≡ wordAt (now (input .entry)) at ⌝ }
 {
     wide(input[at])
         + 256 * wide(input[at + 1])
@@ -77,18 +79,19 @@ fn cell_at(input: &[u8], at: usize) -> u32
 
 // The cells of the prefix, into the table.
 pub fn read_cells(input: &[u8], table: &mut [u32])
-    requires { ⌜ 2 + 4 * length (now table) ≤ length (now input) ⌝ }
-    ensures { λ _. ⌜ length (now (table .exit)) ≡ length (now (table .entry)) ⌝ }
+    requires { ⌜ prefixBytes (length (now table)) ≤ length (now input) ⌝ }
+    ensures { λ _. ⌜ now (table .exit) ≡ tableIn (now (input .entry)) (length (now (table .entry))) ⌝ }
 {
     let n = table.len();
     for c in 0..n {
-        table[c] = cell_at(input, COUNT_BYTES + CELL_BYTES * c);
+        table[c] = word_at(input, COUNT_BYTES + CELL_BYTES * c);
     }
 }
 
 // The image behind a prefix of so many cells.
 pub fn image_behind(input: &[u8], cells: usize) -> &[u8]
-    requires { ⌜ 2 + 4 * cells ≤ length (now input) ⌝ }
+    requires { ⌜ prefixBytes cells ≤ length (now input) ⌝ }
+    ensures { λ r. ⌜ now r ≡ imageIn (now (input .entry)) cells ⌝ }
 {
     let start = COUNT_BYTES + CELL_BYTES * cells;
     &input[start..]
