@@ -1,7 +1,9 @@
-// Reads a batch from standard input, runs it and prints what came of it: document 01, "Bench sheet".
+// Reads a batch from standard input, runs it and prints what came of it: document 01, "Bench sheet". The page is made in a buffer and written once.
 
 fn main() {
     let mut bytes = [0u8; input::LONGEST];
     let n = input::read_input(b"batch", &mut bytes);
-    report::print_batch(&bytes[..n]);
+    let mut page = results::room();
+    let end = report::batch_page(&bytes[..n], &mut page);
+    output::print(b"batch", &page[0..end]);
 }

@@ -1,6 +1,5 @@
 -- Laws of the prefix: each test that the code makes, and what a good prefix shows. Assumes nothing.
 use mathlib.Core.Path.{_≡_, refl, sym, _∙_}
-use mathlib.Core.Logic.{_⊎_, inl, inr}
 use mathlib.Core.Bool.{true, false, _&&_}
 use mathlib.Core.List.{List}
 use Prim.Native.Nat.{ℕ, _+_, _≤_, _<_}
@@ -11,7 +10,7 @@ use lib.ListN.{length, getD, set}
 use lib.Seq.{getD-set-same, getD-set-other}
 use borrow.Author.Count.{below-more}
 use borrow.Author.Tests.{leb-true, le-leb}
-use Rattle.base.proofs.Bools.{known, and-both, both-and, not-true}
+use Rattle.base.proofs.Bools.{and-both, both-and, not-true, not-false}
 use Rattle.image.specs.Limits.{minCells, maxCells}
 use Rattle.input.specs.Prefix.{cellsNamed, prefixBytes, prefixGood, cellsOf}
 
@@ -55,13 +54,16 @@ module _ (input : List ℕ) where
       go (yes e) = e ∙ no-cells (λ w. omega (arith, w .some, e))
       go (no h) = good-cells (shows-good (record { named = refl; some = omega arith; few = few; there = there }))
 
-  -- and cells that there are come from a good prefix
+  -- no cells are those of a prefix that is not good
+  pub cells-none : cellsOf input ≡ 0 → prefixGood input ≡ false
+  cells-none e = not-true (λ g. omega (arith, e, good-cells g, good-shows g .some))
+
+  -- and cells that there are come from a good one
+  pub cells-good : (T : ℕ) → T ≡ cellsOf input → (T ≡ 0 → ⊥) → prefixGood input ≡ true
+  cells-good T e h = not-false (λ g. h (e ∙ none-good g))
+
   pub cells-whole : (T : ℕ) → T ≡ cellsOf input → (T ≡ 0 → ⊥) → Whole input T
-  cells-whole T e h = go (known (prefixGood input))
-    where
-      go : (prefixGood input ≡ true) ⊎ (prefixGood input ≡ false) → Whole input T
-      go (inl g) = rw (e ∙ sym (good-cells g)) (good-shows g)
-      go (inr g) = absurd (h (e ∙ none-good g))
+  cells-whole T e h = let g = cells-good T e h in rw (e ∙ sym (good-cells g)) (good-shows g)
 
 -- ---- a table that is filled from the front: one cell more
 

@@ -1,1 +1,3 @@
-pub mod Room
+pub mod Batch
+pub mod Runs
+pub mod Opened

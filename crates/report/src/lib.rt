@@ -1,205 +1,197 @@
-// The work of the programs `batch` (document 01, "Bench sheet") and `why` (document 02, ask 3): a batch is run from its input, and then a page of it is
-// printed. The numbers on it come from the library's answers.
+// The work of the programs `batch` (document 01, "Bench sheet") and `why` (document 02, ask 3): a batch is run from its input, and then a page is made of
+// the image, the table and the area.
 ghost use mathlib.Core.Path.{_≡_};
-ghost use Prim.Native.Nat.{_+_, _*_, _≤_, _<_};
+ghost use Prim.Native.Nat.{_≤_, _<_};
 ghost use lib.ListN.{length};
+ghost use Rattle.text.specs.Writing.{Wrote};
 ghost use Rattle.image.specs.Limits.{maxPrograms, maxCells};
+ghost use Rattle.image.specs.Image.{countOf};
 ghost use Rattle.area.specs.Layout.{areaWords};
+ghost use Rattle.area.specs.Checks.{Measured};
+ghost use Rattle.input.specs.Prefix.{prefixBytes, tableIn};
 ghost use Rattle.reasons.specs.Asked.{Asked};
-ghost use Rattle.report.specs.Room.{Roomy};
+ghost use Rattle.results.specs.Listing.{listing, mostListing};
+ghost use Rattle.report.specs.Batch.{lent, gatherFirst, settleFirst, batchPage, PageSays};
+ghost use Rattle.report.specs.Runs.{Leaves, RunsIn, programsIn, Fits, Runs, RanSays};
 
-// What is wanted of a batch: what came of it, or why.
-enum Page {
-    Results,
-    Reasons,
+// What comes of an input: a refusal, or how many cells and words of what was lent are the table and the area of its settled batch.
+enum Ran {
+    Refused(image::Refusal),
+    Settled(usize, usize),
 }
 
-// Notes what a step did to program k; a refused step did nothing.
-fn note(states: &mut [u32], details: &mut [u32], k: usize, numbers: sheetbendle::StepNumbers)
-    requires { ⌜ (k < length (now states)) × (k < length (now details)) ⌝ }
+// Gathers the first n programs in number order.
+fn gather_all(image: &[u8], table: &[u32], area: &mut [u32], n: usize)
+    ensures { λ _. ⌜ now (area .exit) ≡ gatherFirst (now (image .entry)) (now (table .entry)) (now (area .entry)) n ⌝ }
 {
-    if numbers.refusal == 0 {
-        states[k] = numbers.state;
-        details[k] = numbers.detail;
-    }
-}
-
-// Gathers every program in number order, and notes each one's state and detail.
-fn gather_all(
-    image: &[u8],
-    table: &[u32],
-    area: &mut [u32],
-    states: &mut [u32],
-    details: &mut [u32],
-)
-    requires { ⌜ length (now states) ≡ length (now details) ⌝ }
-{
-    let n = states.len();
     for k in 0..n {
-        let answer = sheetbendle::gather(image, table, area, k);
-        note(states, details, k, sheetbendle::of_gathered(answer));
+        sheetbendle::gather(image, table, area, k);
     }
 }
 
-// Settles every program in number order; one that was rejected or faulted keeps its state and detail.
-fn settle_all(
-    image: &[u8],
-    table: &mut [u32],
-    area: &mut [u32],
-    states: &mut [u32],
-    details: &mut [u32],
-)
-    requires { ⌜ length (now states) ≡ length (now details) ⌝ }
+// Settles the first n programs in number order; one that was rejected or faulted keeps its state and detail.
+fn settle_all(image: &[u8], table: &mut [u32], area: &mut [u32], n: usize)
+    ensures { λ _. ⌜ Leaves (settleFirst (now (image .entry)) (lent (now (table .entry)) (now (area .entry))) n) (now (table .exit)) (now (area .exit)) ⌝ }
 {
-    let n = states.len();
     for k in 0..n {
-        let answer = sheetbendle::settle(image, table, area, k);
-        note(states, details, k, sheetbendle::of_settled(answer));
+        sheetbendle::settle(image, table, area, k);
     }
 }
 
-// The page of a settled batch.
-fn print_page(
-    page: Page,
-    image: &[u8],
-    table: &[u32],
-    area: &[u32],
-    states: &[u32],
-    details: &[u32],
-)
-    requires { ⌜ Asked (now table) (now states) (now details) ⌝ }
-{
-    match page {
-        Page::Results => results::print_results(image, table, area, states, details),
-        Page::Reasons => reasons::print_reasons(image, table, area, states, details),
-    }
-}
-
-// Gathers and settles in number order, and prints the page.
-fn run_opened(
-    page: Page,
-    image: &[u8],
-    table: &mut [u32],
-    area: &mut [u32],
-    states: &mut [u32],
-    details: &mut [u32],
-)
-    requires { ⌜ Asked (now table) (now states) (now details) ⌝ }
-{
-    gather_all(image, table, area, states, details);
-    settle_all(image, table, area, states, details);
-    print_page(page, image, table, area, states, details);
-}
-
-// Opens, and runs the batch, or prints the refusal.
-fn run_in(
-    page: Page,
-    image: &[u8],
-    table: &mut [u32],
-    area: &mut [u32],
-    states: &mut [u32],
-    details: &mut [u32],
-)
-    requires { ⌜ Asked (now table) (now states) (now details) ⌝ }
+// Opens, gathers and settles in number order, unless opening is refused.
+fn run_in(image: &[u8], table: &mut [u32], area: &mut [u32]) -> image::Refusal
+    ensures { λ r. ⌜ RunsIn (now (image .entry)) (now (table .entry)) (now (area .entry)) r (now (table .exit)) (now (area .exit)) ⌝ }
 {
     let refused = sheetbendle::open(image, table, area);
     if refused.number != 0 {
-        output::print_refused(refused);
-        return;
+        return refused;
     }
-    run_opened(page, image, table, area, states, details);
+    let n = image::count(image);
+    gather_all(image, table, area, n);
+    settle_all(image, table, area, n);
+    refused
+}
+
+// The same, in the first words of what is lent.
+fn run_on(image: &[u8], table: &mut [u32], areas: &mut [u32], words: usize) -> image::Refusal
+    requires { ⌜ Fits (now image) (now table) (now areas) words ⌝ }
+    ensures { λ r. ⌜ Runs (now (image .entry)) (now (table .entry)) words r (now (table .exit)) (now (areas .exit)) ⌝ }
+{
+    run_in(image, table, &mut areas[0..words])
 }
 
 // How many programs the header names, 0 where that is over the limit: opening then refuses the image before it looks at the area.
-fn programs_of(image: &[u8]) -> u16
-    ensures { λ r. ⌜ r ≤ maxPrograms ⌝ }
+fn programs_in(image: &[u8]) -> u16
+    ensures { λ r. ⌜ (r ≡ programsIn (now (image .entry))) × (r ≤ maxPrograms) ⌝ }
 {
-    let n = sheetbendle::Image::header(image).count;
-    if sheetbendle::Image::PROGRAMS < n as usize {
+    let n = image::Image::header(image).count;
+    if image::Image::PROGRAMS < n as usize {
         return 0;
     }
     n
 }
 
-// The batch of an image on a table, in those parts of what is lent that have the right size.
-fn run_on(
-    page: Page,
-    image: &[u8],
-    table: &mut [u32],
-    area: &mut [u32],
-    states: &mut [u32],
-    details: &mut [u32],
-)
-    requires { ⌜ Roomy (now table) (now area) (now states) (now details) ⌝ }
+// How many words an area for this image has on a table of so many cells.
+fn words_for(image: &[u8], cells: usize) -> usize
+    requires { ⌜ cells ≤ maxCells ⌝ }
+    ensures { λ r. ⌜ (r ≡ areaWords cells (programsIn (now (image .entry)))) × (r ≤ areaWords maxCells maxPrograms) ⌝ }
 {
-    let programs = programs_of(image);
-    let words = sheetbendle::area_words(table.len() as u16, programs);
-    let n = programs as usize;
-    run_in(
-        page,
-        image,
-        table,
-        &mut area[0..words],
-        &mut states[0..n],
-        &mut details[0..n],
-    );
+    sheetbendle::area_words(cells as u16, programs_in(image))
 }
 
-// Room for the largest work area, and for a number per program.
+// Reads the table from the input, and runs the batch on it.
+fn run_table(
+    input: &[u8],
+    image: &[u8],
+    table: &mut [u32],
+    areas: &mut [u32],
+    words: usize,
+) -> image::Refusal
+    requires { ⌜ (prefixBytes (length (now table)) ≤ length (now input)) × Fits (now image) (now table) (now areas) words ⌝ }
+    ensures { λ r. ⌜ Runs (now (image .entry)) (tableIn (now (input .entry)) (length (now (table .entry)))) words r (now (table .exit)) (now (areas .exit)) ⌝ }
+{
+    input::read_cells(input, table);
+    run_on(image, table, areas, words)
+}
+
+// Runs the batch that the input holds, in the rooms that are lent.
+fn run_input(input: &[u8], tables: &mut [u32], areas: &mut [u32]) -> Ran
+    requires { ⌜ (maxCells ≤ length (now tables)) × (areaWords maxCells maxPrograms ≤ length (now areas)) ⌝ }
+    ensures { λ r. ⌜ RanSays (now (input .entry)) r (now (tables .exit)) (now (areas .exit)) ⌝ }
+{
+    let cells = input::cells_of(input);
+    if cells == 0 {
+        return Ran::Refused(image::Refusal::TABLE_SIZE);
+    }
+    let image = input::image_behind(input, cells);
+    let words = words_for(image, cells);
+    let refused = run_table(input, image, &mut tables[0..cells], areas, words);
+    if refused.number != 0 {
+        return Ran::Refused(refused);
+    }
+    Ran::Settled(cells, words)
+}
+
+// Room for the largest table, and for the largest area.
+fn table_room() -> [u32; image::Image::CELLS]
+    ensures { λ r. ⌜ maxCells ≡ length r ⌝ }
+{
+    [0; image::Image::CELLS]
+}
+
 fn area_room() -> [u32; sheetbendle::AREA_WORDS]
     ensures { λ r. ⌜ areaWords maxCells maxPrograms ≡ length r ⌝ }
 {
     [0; sheetbendle::AREA_WORDS]
 }
 
-fn program_room() -> [u32; sheetbendle::Image::PROGRAMS]
+// The listing, where there is room for every listing.
+fn put_listing(out: &mut [u8], image: &[u8], table: &[u32], area: &[u32]) -> usize
+    requires { ⌜ Measured (length (now table)) (countOf (now image)) (now area) × (mostListing ≤ length (now out)) ⌝ }
+    ensures { λ r. ⌜ Wrote (now (out .entry)) 0 (listing (now (image .entry)) (now (table .entry)) (now (area .entry))) (now (out .exit)) r ⌝ }
+{
+    results::put_listing(out, 0, image, table, area)
+}
+
+// The page of `batch`: what came of the batch that the input holds, or the refusal.
+pub fn batch_page(input: &[u8], out: &mut [u8]) -> usize
+    requires { ⌜ mostListing ≤ length (now out) ⌝ }
+    ensures { λ r. ⌜ PageSays (batchPage (now (input .entry))) (now (out .entry)) r (now (out .exit)) ⌝ }
+{
+    let mut tables = table_room();
+    let mut areas = area_room();
+    match run_input(input, &mut tables, &mut areas) {
+        Ran::Refused(refusal) => results::put_refused(out, 0, refusal),
+        Ran::Settled(cells, words) => {
+            let image = input::image_behind(input, cells);
+            put_listing(out, image, &tables[0..cells], &areas[0..words])
+        }
+    }
+}
+
+// ---- the page of `why`, while it is printed piece by piece: each program's state and detail are copied out of the area for it
+
+fn program_room() -> [u32; image::Image::PROGRAMS]
     ensures { λ r. ⌜ maxPrograms ≡ length r ⌝ }
 {
-    [0; sheetbendle::Image::PROGRAMS]
+    [0; image::Image::PROGRAMS]
 }
 
-fn table_room() -> [u32; sheetbendle::Image::CELLS]
-    ensures { λ r. ⌜ maxCells ≡ length r ⌝ }
+fn copy_states(area: &[u32], cells: usize, states: &mut [u32], details: &mut [u32])
+    requires { ⌜ Measured cells (length (now states)) (now area) × (length (now states) ≡ length (now details)) ⌝ }
 {
-    [0; sheetbendle::Image::CELLS]
+    let n = states.len();
+    for k in 0..n {
+        states[k] = area::state(area, cells, k);
+        details[k] = area::detail(area, cells, k);
+    }
 }
 
-// The batch of an image on a table.
-fn run_batch(page: Page, image: &[u8], table: &mut [u32])
-    requires { ⌜ (0 < length (now table)) × (length (now table) ≤ maxCells) ⌝ }
+fn print_in(image: &[u8], table: &[u32], area: &[u32], states: &mut [u32], details: &mut [u32])
+    requires { ⌜ Measured (length (now table)) (length (now states)) (now area) × Asked (now table) (now states) (now details) ⌝ }
 {
-    let mut area = area_room();
+    copy_states(area, table.len(), states, details);
+    reasons::print_reasons(image, table, area, states, details);
+}
+
+fn print_settled(image: &[u8], table: &[u32], area: &[u32])
+    requires { ⌜ Measured (length (now table)) (countOf (now image)) (now area) × (0 < length (now table)) ⌝ }
+{
+    let n = image::count(image);
     let mut states = program_room();
     let mut details = program_room();
-    run_on(page, image, table, &mut area, &mut states, &mut details);
+    print_in(image, table, area, &mut states[0..n], &mut details[0..n]);
 }
 
-// The batch of an input whose prefix is whole: its cells into the table, and then its image on it.
-fn run_table(page: Page, input: &[u8], cells: usize, room: &mut [u32])
-    requires { ⌜ (0 < cells) × (cells ≤ maxCells) × (cells ≤ length (now room)) × (2 + 4 * cells ≤ length (now input)) ⌝ }
-{
-    let table = &mut room[0..cells];
-    input::read_cells(input, table);
-    run_batch(page, input::image_behind(input, cells), table);
-}
-
-// Runs the batch that the input holds and prints its page, or the refusal as the whole output.
-fn run_input(page: Page, input: &[u8]) {
-    let cells = input::cells_of(input);
-    if cells == 0 {
-        output::print_refused(sheetbendle::Refusal::TABLE_SIZE);
-        return;
-    }
-    let mut room = table_room();
-    run_table(page, input, cells, &mut room);
-}
-
-// What came of the batch that the input holds.
-pub fn print_batch(input: &[u8]) {
-    run_input(Page::Results, input);
-}
-
-// Why each of its programs ended as it did.
+// Why each program of the batch that the input holds ended as it did, or the refusal.
 pub fn print_reasons(input: &[u8]) {
-    run_input(Page::Reasons, input);
+    let mut tables = table_room();
+    let mut areas = area_room();
+    match run_input(input, &mut tables, &mut areas) {
+        Ran::Refused(refusal) => output::print_refused(refusal),
+        Ran::Settled(cells, words) => {
+            let image = input::image_behind(input, cells);
+            print_settled(image, &tables[0..cells], &areas[0..words]);
+        }
+    }
 }

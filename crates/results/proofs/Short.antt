@@ -37,7 +37,7 @@ pub record Narrow (xs : List ℕ) : Type 0 where
 abbrev pub Small : Refusal → Type 0
 Small r = r .number < 4294967296
 
-check-small : (holds : Bool) (gives rest : Refusal) → Small gives → Small rest → Small (check holds gives rest)
+pub check-small : (holds : Bool) (gives rest : Refusal) → Small gives → Small rest → Small (check holds gives rest)
 unfolding check
 check-small true gives rest g r = r
 check-small false gives rest g r = g

@@ -5,6 +5,8 @@ ghost use mathlib.Core.Path.{_≡_};
 ghost use Prim.Native.Nat.{_≤_, _<_};
 ghost use lib.ListN.{length};
 
+const OUT: i32 = 1;
+
 // Room for the longest input of a pack.
 const ROOM: usize = 16384;
 
@@ -34,12 +36,20 @@ fn room() -> [u8; ROOM]
 
 // The line above an input's page.
 fn print_heading(name: &[u8], why: bool, number: u64) {
-    output::print(name);
+    io::write_all(OUT, name);
     if why {
-        output::print(b" why");
+        io::write_all(OUT, b" why");
     }
-    output::print_with(b" ", number);
-    output::print(b"\n");
+    io::write_all(OUT, b" ");
+    io::print_decimal(OUT, number);
+    io::write_all(OUT, b"\n");
+}
+
+// The page of `batch` for an input.
+fn print_batch(input: &[u8]) {
+    let mut page = results::room();
+    let end = report::batch_page(input, &mut page);
+    output::print(b"vectors", &page[0..end]);
 }
 
 // Reads an input that fills what is lent, and runs it for the page of `batch`, or of `why`.
@@ -48,7 +58,7 @@ fn run_input(pack: i32, input: &mut [u8], why: bool) {
     if why {
         report::print_reasons(&input[..got]);
     } else {
-        report::print_batch(&input[..got]);
+        print_batch(&input[..got]);
     }
 }
 

@@ -1,0 +1,106 @@
+-- Laws of an input and its page: what the tests of the prefix and the run of the batch make of it. Assumes nothing.
+use mathlib.Core.Path.{_≡_, refl, sym, ap, _∙_}
+use mathlib.Core.Bool.{true, false}
+use mathlib.Core.List.{List, _++_}
+use Prim.Native.Nat.{ℕ, _≤_, _<_}
+use native.Mathlib.Omega.{arith}
+use lib.ListN.{length, take, drop, length-append, length-drop}
+use lib.Seq.{take-at}
+use Rattle.text.specs.Writing.{Wrote, Room}
+use Rattle.text.proofs.Writing.{pasted-front}
+use Rattle.image.specs.declared.Refusal.{Refusal}
+use Rattle.image.specs.Refusals as refusal
+use Rattle.image.specs.Refusals.{check}
+use Rattle.image.specs.Image.{countOf}
+use Rattle.image.proofs.Refusing.{fails, goes-on, none-fails, number-of, unless-refused, unless-done}
+use Rattle.area.specs.Checks.{openRefusal, Checked, Measured}
+use Rattle.area.proofs.Checks.{measured}
+use Rattle.input.specs.Prefix.{cellsNamed, tableIn, imageIn, prefixGood, cellsOf}
+use Rattle.input.proofs.Prefixes.{Whole, cells-none, cells-good, cells-whole}
+use Rattle.results.specs.Listing.{refusedLine, mostRefused, mostListing}
+use Rattle.results.proofs.Short.{Small, check-small, open-small, refused-short}
+use Rattle.report.specs.Batch.{lent, workArea, batchOn, tableOf, imageOf, inputRefusal, batchOf, pageOf, PageSays}
+use Rattle.report.specs.Runs.{Leaves, Runs, Refuses, Settles}
+use Rattle.report.proofs.Batches.{batch-checked}
+
+-- ---- the run of an input
+
+-- the prefix is refused
+pub prefix-refused : (input : List ℕ) {cells : ℕ} → cells ≡ cellsOf input → cells ≡ 0 → Refuses input refusal.tableSize
+unfolding inputRefusal
+prefix-refused input e z = record { answer = fails _ (cells-none input (sym e ∙ z)); some = λ h. omega arith }
+
+module _ (input : List ℕ) {cells : ℕ} (e : cells ≡ cellsOf input) (some : cells ≡ 0 → ⊥) where
+  whole : Whole input cells
+  whole = cells-whole input cells e some
+
+  -- it is not: what is left is opening
+  opening-is : openRefusal (imageOf input) (tableOf input) (workArea (imageOf input) (tableOf input)) ≡ inputRefusal input
+  unfolding inputRefusal
+  opening-is = goes-on refusal.tableSize (cells-good input cells e some) refl
+
+  module _ {image t′ areas′ : List ℕ} {T words : ℕ} {r : Refusal} (i : image ≡ imageIn input cells) (s : T ≡ cells) (runs : Runs image (tableIn input T) words r t′ areas′) where
+    its-own : Runs (imageOf input) (tableOf input) words r t′ areas′
+    its-own = rw (i, s, whole .named) at runs
+
+    pub run-refused : (r .number ≡ 0 → ⊥) → Refuses input r
+    run-refused h = record { answer = its-own .answer ∙ opening-is; some = h }
+
+    pub run-settled : r .number ≡ 0 → (post : List ℕ) → length t′ ≡ cells → words ≤ length areas′ → Settles input cells words (t′ ++ post) areas′
+    unfolding batchOf
+    run-settled z post l w =
+        let left = its-own .done z in
+        record {
+          accepted = number-of (sym (its-own .answer ∙ opening-is)) ∙ z;
+          prefix = whole .there;
+          image = ap (imageIn input) (whole .named);
+          cells-lie = omega (arith, length-append t′ post, l);
+          words-lie = w;
+          leaves = record { table = take-at t′ post cells l ∙ left .table; area = left .area };
+        }
+
+-- ---- its page
+
+-- a call that has written a page at the front; it has not written more than there is
+pub page-says : {page out out′ : List ℕ} {r : ℕ} → Wrote out 0 page out′ r → PageSays page out r out′
+page-says {page} {out} {out′} w =
+    let e : out′ ≡ page ++ drop (length page) out = w .bytes ∙ pasted-front out page in
+    record {
+      bytes = e;
+      answer = omega (arith, w .next);
+      fits = omega (arith, w .next, w .long, ap length e, length-append page (drop (length page) out), length-drop (length page) out);
+    }
+
+-- a refusal's line fits wherever a listing does
+pub refusal-room : (input out : List ℕ) {r : Refusal} → Refuses input r → mostListing ≤ length out → Room out 0 (refusedLine r)
+unfolding inputRefusal
+refusal-room input out {r} h room =
+    let small : Small r =
+    rw (h .answer) (check-small (prefixGood input) _ _ (omega arith) (open-small (imageOf input) (tableOf input) (workArea (imageOf input) (tableOf input)))) in
+    record { fits = omega (arith, refused-short r small) }
+
+module _ (page : (image table area : List ℕ) → List ℕ) (input : List ℕ) where
+  pub page-refused : {r : Refusal} → Refuses input r → pageOf page input ≡ refusedLine r
+  unfolding pageOf
+  page-refused h =
+      unless-refused (inputRefusal input) refusedLine (page (imageOf input) (batchOf input .table) (batchOf input .area)) (λ z. h .some (number-of (h .answer) ∙ z))
+      ∙ ap refusedLine (sym (h .answer))
+
+-- of a batch that is settled, with the parts that the code has taken
+module _ (input : List ℕ) {cells words : ℕ} {tables areas : List ℕ} (h : Settles input cells words tables areas)
+    {image : List ℕ} {m n : ℕ} (i : image ≡ imageIn input cells) (e : m ≡ cells) (f : n ≡ words) where
+  pub page-settled : (page : (image table area : List ℕ) → List ℕ) → pageOf page input ≡ page image (take m tables) (take n areas)
+  unfolding pageOf
+  page-settled page =
+      unless-done (inputRefusal input) refusedLine (page (imageOf input) (batchOf input .table) (batchOf input .area)) (h .accepted)
+      ∙ rw (i, e, f, h .image, h .leaves .table, h .leaves .area)
+
+  settled-checked : Checked image (take m tables) (take n areas)
+  unfolding inputRefusal batchOf
+  settled-checked =
+      let opens = none-fails (prefixGood input) refusal.tableSize _ (λ z. omega arith) (h .accepted) .1 in
+      rw (i, e, f, h .image, h .leaves .table, h .leaves .area) (batch-checked (imageOf input) (lent (tableOf input) (workArea (imageOf input) (tableOf input))) opens)
+
+  -- the area is measured for the image and the table, and the table has a cell
+  pub settled-measured : Measured (length (take m tables)) (countOf image) (take n areas) × (0 < length (take m tables))
+  settled-measured = (measured _ _ _ settled-checked (countOf image) refl, settled-checked .cells-some)

@@ -1,0 +1,9 @@
+-- One name that opens every definition of a page, for worked cases. Assumes nothing.
+use Rattle.steps.specs.Opened as steps
+use Rattle.input.specs.Opened as input
+use Rattle.results.specs.Opened as results
+use Rattle.report.specs.Batch.{gatherFirst, settleFirst, batchOn, inputRefusal, batchOf, pageOf}
+
+unfoldable pub opened : Unit {0}
+unfolding steps.opened input.opened results.opened gatherFirst settleFirst batchOn inputRefusal batchOf pageOf
+opened = tt
