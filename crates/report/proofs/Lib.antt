@@ -1,3 +1,4 @@
 pub mod Batches
 pub mod Pages
+pub mod Unique
 pub mod Cases

@@ -1,4 +1,5 @@
 pub mod Lines
 pub mod Orders
 pub mod Short
+pub mod Unique
 pub mod Cases

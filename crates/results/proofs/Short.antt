@@ -75,12 +75,12 @@ refused-short r h = filled-short (ascii "refused #\n") (r .number ∷ []) (h, tt
 
 -- ---- each line
 
+either-small : (b : Bool) (x y n : ℕ) → x ≤ n → y ≤ n → cond b x y ≤ n
+either-small true x y n h k = h
+either-small false x y n h k = k
+
 rule-small : (image : List ℕ) → ruleInForce image ≤ 2
-rule-small image = go (secondRule image)
-  where
-    go : (b : Bool) → cond b 2 1 ≤ 2
-    go true = omega arith
-    go false = omega arith
+rule-small image = either-small (secondRule image) _ _ 2 (omega arith) (omega arith)
 
 first-short : (image t : List ℕ) → countOf image ≤ maxPrograms → length t ≤ maxCells → length (firstLine image t) ≤ most (ascii "batch # # #\n") 3
 unfolding firstLine

@@ -1,0 +1,10 @@
+-- No second result: two pages that meet the contract at the same input and the same room look the same, and so do their lengths. Assumes nothing.
+use mathlib.Core.List.{List}
+use Prim.Native.Nat.{ℕ}
+use denote.Ref.{now}
+use Rattle.base.specs.Unique.{Unique}
+use Rattle.report.proofs.batch_page.Kinds as batch-page-kinds
+use Rattle.report.proofs.batch_page.Reads as batch-page
+
+pub batch-page-unique : Unique {A = ℕ × List ℕ} 2 batch-page-kinds.ps batch-page-kinds.r (λ κs x s. (x, now (s .1 .0))) batch-page.Post
+batch-page-unique κs a x y s t p q = cc
