@@ -18,22 +18,3 @@ pub fn print(program: &[u8], page: &[u8]) {
         complain(program, b"standard output cannot be written");
     }
 }
-
-// The page of `why`, while it is printed piece by piece: words, a number, words and a number behind them, a refusal's line.
-pub fn say(words: &[u8]) {
-    io::write_all(OUT, words);
-}
-
-pub fn print_number(n: u64) {
-    io::print_decimal(OUT, n);
-}
-
-pub fn print_with(words: &[u8], n: u64) {
-    say(words);
-    print_number(n);
-}
-
-pub fn print_refused(refusal: image::Refusal) {
-    print_with(b"refused ", refusal.number as u64);
-    say(b"\n");
-}

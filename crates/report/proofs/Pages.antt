@@ -17,9 +17,12 @@ use Rattle.area.specs.Checks.{openRefusal, Checked, Measured}
 use Rattle.area.proofs.Checks.{measured}
 use Rattle.input.specs.Prefix.{cellsNamed, tableIn, imageIn, prefixGood, cellsOf}
 use Rattle.input.proofs.Prefixes.{Whole, cells-none, cells-good, cells-whole}
-use Rattle.results.specs.Listing.{refusedLine, mostRefused, mostListing}
+use Rattle.results.specs.Listing.{refusedLine, mostRefused}
+use Rattle.reasons.specs.Reasons.{longestPage}
 use Rattle.results.proofs.Short.{Small, check-small, open-small, refused-short}
-use Rattle.report.specs.Batch.{lent, workArea, batchOn, tableOf, imageOf, inputRefusal, batchOf, pageOf, PageSays}
+use Rattle.report.specs.Batch.{lent, workArea, batchOn, tableOf, imageOf, inputRefusal, batchOf, pageOf, pageMost, PageSays}
+use Rattle.report.specs.declared.Page.{Page}
+use Rattle.report.specs.declared.Page.the-variants.{Results, Reasons}
 use Rattle.report.specs.Runs.{Leaves, Runs, Refuses, Settles}
 use Rattle.report.proofs.Batches.{batch-checked}
 
@@ -71,13 +74,17 @@ page-says {page} {out} {out′} w =
       fits = omega (arith, w .next, w .long, ap length e, length-append page (drop (length page) out), length-drop (length page) out);
     }
 
--- a refusal's line fits wherever a listing does
-pub refusal-room : (input out : List ℕ) {r : Refusal} → Refuses input r → mostListing ≤ length out → Room out 0 (refusedLine r)
+-- a refusal's line fits wherever a page does
+page-holds : (page : Page) → mostRefused ≤ pageMost page
+page-holds Results = omega arith
+page-holds Reasons = omega arith
+
+pub refusal-room : (page : Page) (input out : List ℕ) {r : Refusal} → Refuses input r → pageMost page ≤ length out → Room out 0 (refusedLine r)
 unfolding inputRefusal
-refusal-room input out {r} h room =
+refusal-room page input out {r} h room =
     let small : Small r =
     rw (h .answer) (check-small (prefixGood input) _ _ (omega arith) (open-small (imageOf input) (tableOf input) (workArea (imageOf input) (tableOf input)))) in
-    record { fits = omega (arith, refused-short r small) }
+    record { fits = omega (arith, refused-short r small, page-holds page) }
 
 module _ (page : (image table area : List ℕ) → List ℕ) (input : List ℕ) where
   pub page-refused : {r : Refusal} → Refuses input r → pageOf page input ≡ refusedLine r

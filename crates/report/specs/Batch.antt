@@ -1,4 +1,4 @@
--- Document 01, "Bench sheet": what the program `batch` prints, for every input. Assumes nothing.
+-- Document 01, "Bench sheet": what the program `batch` prints, for every input; and what `why` does (document 02, ask 3). Assumes nothing.
 use Prim.Native.Nat.{ℕ, zero, suc, _≤_}
 use mathlib.Core.Path.{_≡_}
 use mathlib.Core.List.{List}
@@ -14,7 +14,10 @@ use Rattle.steps.specs.Gathering.{gatherArea}
 use Rattle.steps.specs.Settling.{settleTable, settleArea}
 use Rattle.listing.specs.Listing.{overwritten}
 use Rattle.input.specs.Prefix.{cellsNamed, tableIn, imageIn, prefixGood}
-use Rattle.results.specs.Listing.{refusedLine, listing}
+use Rattle.results.specs.Listing.{refusedLine, listing, mostListing}
+use Rattle.reasons.specs.Reasons.{reasonsText, longestPage}
+use Rattle.report.specs.declared.Page.{Page}
+use Rattle.report.specs.declared.Page.the-variants.{Results, Reasons}
 
 -- ---- "It opens, gathers and settles in number order."
 
@@ -73,9 +76,21 @@ batchOf input = batchOn (imageOf input) (lent (tableOf input) (workArea (imageOf
 unfoldable pub pageOf : (page : (image table area : List ℕ) → List ℕ) → (input : List ℕ) → List ℕ
 pageOf page input = unless (inputRefusal input) refusedLine (page (imageOf input) (batchOf input .table) (batchOf input .area))
 
--- what `batch` prints
+-- what is wanted of a batch: what came of it, or why; and how long such a page is at most
+abbrev pub pageText : Page → (image table area : List ℕ) → List ℕ
+pageText Results = listing
+pageText Reasons = reasonsText
+
+abbrev pub pageMost : Page → ℕ
+pageMost Results = mostListing
+pageMost Reasons = longestPage
+
+-- what `batch` prints, and what `why` does
 abbrev pub batchPage : (input : List ℕ) → List ℕ
-batchPage = pageOf listing
+batchPage = pageOf (pageText Results)
+
+abbrev pub reasonsPage : (input : List ℕ) → List ℕ
+reasonsPage = pageOf (pageText Reasons)
 
 -- The contract of a call that makes a page: it stands at the front of what is lent, everything behind it is as it was, and its length is the answer.
 pub record PageSays (page out : List ℕ) (r : ℕ) (out′ : List ℕ) : Type 0 where

@@ -9,9 +9,9 @@ ghost use Rattle.image.specs.Image.{countOf};
 ghost use Rattle.area.specs.Layout.{areaWords};
 ghost use Rattle.area.specs.Checks.{Measured};
 ghost use Rattle.input.specs.Prefix.{prefixBytes, tableIn};
-ghost use Rattle.reasons.specs.Asked.{Asked};
 ghost use Rattle.results.specs.Listing.{listing, mostListing};
-ghost use Rattle.report.specs.Batch.{lent, gatherFirst, settleFirst, batchPage, PageSays};
+ghost use Rattle.reasons.specs.Reasons.{reasonsText, longestPage};
+ghost use Rattle.report.specs.Batch.{lent, gatherFirst, settleFirst, pageOf, pageText, pageMost, batchPage, reasonsPage, PageSays};
 ghost use Rattle.report.specs.Runs.{Leaves, RunsIn, programsIn, Fits, Runs, RanSays};
 
 // What comes of an input: a refusal, or how many cells and words of what was lent are the table and the area of its settled batch.
@@ -125,6 +125,12 @@ fn area_room() -> [u32; sheetbendle::AREA_WORDS]
     [0; sheetbendle::AREA_WORDS]
 }
 
+// What is wanted of a batch: what came of it, or why.
+enum Page {
+    Results,
+    Reasons,
+}
+
 // The listing, where there is room for every listing.
 fn put_listing(out: &mut [u8], image: &[u8], table: &[u32], area: &[u32]) -> usize
     requires { ⌜ Measured (length (now table)) (countOf (now image)) (now area) × (mostListing ≤ length (now out)) ⌝ }
@@ -133,10 +139,29 @@ fn put_listing(out: &mut [u8], image: &[u8], table: &[u32], area: &[u32]) -> usi
     results::put_listing(out, 0, image, table, area)
 }
 
-// The page of `batch`: what came of the batch that the input holds, or the refusal.
-pub fn batch_page(input: &[u8], out: &mut [u8]) -> usize
-    requires { ⌜ mostListing ≤ length (now out) ⌝ }
-    ensures { λ r. ⌜ PageSays (batchPage (now (input .entry))) (now (out .entry)) r (now (out .exit)) ⌝ }
+// The reasons, where there is room for all that can be said of a batch.
+fn put_reasons(out: &mut [u8], image: &[u8], table: &[u32], area: &[u32]) -> usize
+    requires { ⌜ Measured (length (now table)) (countOf (now image)) (now area) × (0 < length (now table)) × (longestPage ≤ length (now out)) ⌝ }
+    ensures { λ r. ⌜ Wrote (now (out .entry)) 0 (reasonsText (now (image .entry)) (now (table .entry)) (now (area .entry))) (now (out .exit)) r ⌝ }
+{
+    reasons::put_reasons(out, 0, image, table, area)
+}
+
+// The page that is wanted.
+fn put_page(page: Page, out: &mut [u8], image: &[u8], table: &[u32], area: &[u32]) -> usize
+    requires { ⌜ Measured (length (now table)) (countOf (now image)) (now area) × (0 < length (now table)) × (pageMost page ≤ length (now out)) ⌝ }
+    ensures { λ r. ⌜ Wrote (now (out .entry)) 0 (pageText page (now (image .entry)) (now (table .entry)) (now (area .entry))) (now (out .exit)) r ⌝ }
+{
+    match page {
+        Page::Results => put_listing(out, image, table, area),
+        Page::Reasons => put_reasons(out, image, table, area),
+    }
+}
+
+// Runs the batch that the input holds and makes the page that is wanted of it, or the refusal's line.
+fn make_page(page: Page, input: &[u8], out: &mut [u8]) -> usize
+    requires { ⌜ pageMost page ≤ length (now out) ⌝ }
+    ensures { λ r. ⌜ PageSays (pageOf (pageText page) (now (input .entry))) (now (out .entry)) r (now (out .exit)) ⌝ }
 {
     let mut tables = table_room();
     let mut areas = area_room();
@@ -144,54 +169,23 @@ pub fn batch_page(input: &[u8], out: &mut [u8]) -> usize
         Ran::Refused(refusal) => results::put_refused(out, 0, refusal),
         Ran::Settled(cells, words) => {
             let image = input::image_behind(input, cells);
-            put_listing(out, image, &tables[0..cells], &areas[0..words])
+            put_page(page, out, image, &tables[0..cells], &areas[0..words])
         }
     }
 }
 
-// ---- the page of `why`, while it is printed piece by piece: each program's state and detail are copied out of the area for it
-
-fn program_room() -> [u32; image::Image::PROGRAMS]
-    ensures { λ r. ⌜ maxPrograms ≡ length r ⌝ }
+// The page of `batch`: what came of the batch.
+pub fn batch_page(input: &[u8], out: &mut [u8]) -> usize
+    requires { ⌜ mostListing ≤ length (now out) ⌝ }
+    ensures { λ r. ⌜ PageSays (batchPage (now (input .entry))) (now (out .entry)) r (now (out .exit)) ⌝ }
 {
-    [0; image::Image::PROGRAMS]
+    make_page(Page::Results, input, out)
 }
 
-fn copy_states(area: &[u32], cells: usize, states: &mut [u32], details: &mut [u32])
-    requires { ⌜ Measured cells (length (now states)) (now area) × (length (now states) ≡ length (now details)) ⌝ }
+// The page of `why`: why each of its programs ended as it did.
+pub fn reasons_page(input: &[u8], out: &mut [u8]) -> usize
+    requires { ⌜ longestPage ≤ length (now out) ⌝ }
+    ensures { λ r. ⌜ PageSays (reasonsPage (now (input .entry))) (now (out .entry)) r (now (out .exit)) ⌝ }
 {
-    let n = states.len();
-    for k in 0..n {
-        states[k] = area::state(area, cells, k);
-        details[k] = area::detail(area, cells, k);
-    }
-}
-
-fn print_in(image: &[u8], table: &[u32], area: &[u32], states: &mut [u32], details: &mut [u32])
-    requires { ⌜ Measured (length (now table)) (length (now states)) (now area) × Asked (now table) (now states) (now details) ⌝ }
-{
-    copy_states(area, table.len(), states, details);
-    reasons::print_reasons(image, table, area, states, details);
-}
-
-fn print_settled(image: &[u8], table: &[u32], area: &[u32])
-    requires { ⌜ Measured (length (now table)) (countOf (now image)) (now area) × (0 < length (now table)) ⌝ }
-{
-    let n = image::count(image);
-    let mut states = program_room();
-    let mut details = program_room();
-    print_in(image, table, area, &mut states[0..n], &mut details[0..n]);
-}
-
-// Why each program of the batch that the input holds ended as it did, or the refusal.
-pub fn print_reasons(input: &[u8]) {
-    let mut tables = table_room();
-    let mut areas = area_room();
-    match run_input(input, &mut tables, &mut areas) {
-        Ran::Refused(refusal) => output::print_refused(refusal),
-        Ran::Settled(cells, words) => {
-            let image = input::image_behind(input, cells);
-            print_settled(image, &tables[0..cells], &areas[0..words]);
-        }
-    }
+    make_page(Page::Reasons, input, out)
 }

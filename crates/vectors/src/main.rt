@@ -52,11 +52,18 @@ fn print_batch(input: &[u8]) {
     output::print(b"vectors", &page[0..end]);
 }
 
+// The page of `why` for an input.
+fn print_reasons(input: &[u8]) {
+    let mut page = reasons::page_room();
+    let end = report::reasons_page(input, &mut page);
+    output::print(b"vectors", &page[0..end]);
+}
+
 // Reads an input that fills what is lent, and runs it for the page of `batch`, or of `why`.
 fn run_input(pack: i32, input: &mut [u8], why: bool) {
     let got = io::read_full(pack, input);
     if why {
-        report::print_reasons(&input[..got]);
+        print_reasons(&input[..got]);
     } else {
         print_batch(&input[..got]);
     }

@@ -1,14 +1,13 @@
--- What the run of the input says is told: its refusal, or the listing of what it has left in the two rooms. Assumes nothing.
+-- What the run of the input says is told: its refusal, or the page of what it has left in the two rooms. Assumes nothing.
 use mathlib.Core.Path.{subst}
 use native.Mathlib.Nat.{sub-zero}
 use native.Mathlib.Omega.{arith}
 use borrow.Author.Needs.{needs}
-use Rattle.results.specs.Listing.{listing}
 use Rattle.report.specs.declared.Ran.{Ran}
 use Rattle.report.specs.Runs.{Refuses, Settles, RanSays}
 use Rattle.report.proofs.Pages.{page-says, page-refused, page-settled, refusal-room, settled-measured}
-use Rattle.report.proofs.batch_page.Statement.{statement}
-use Rattle.report.proofs.batch_page.Tie as tie
+use Rattle.report.proofs.make_page.Statement.{statement}
+use Rattle.report.proofs.make_page.Tie as tie
 
 abbrev start-of : tie.After-run-input → tie.Start
 start-of c = c .before .before .before .before .before .before .before
@@ -29,31 +28,32 @@ put-refused-requires : tie.Need-put-refused-requires
 put-refused-requires c κs =
     let r = c .before .before in
     let s = start-of (r .before .before .before .before) in
-    refusal-room (s .args .input .now) (s .args .out .now) (refuses r) (s .pre)
+    refusal-room (s .args .page) (s .args .input .now) (s .args .out .now) (refuses r) (s .pre)
 
 returns : tie.Need-returns
-returns c = rw (page-refused listing _ (refuses (c .before .before .before .before .before))) (page-says (c .before .before .put-refused .ensures))
+returns c = rw (page-refused _ _ (refuses (c .before .before .before .before .before))) (page-says (c .before .before .put-refused .ensures))
 
-part-put-listing-end : tie.Need-part-put-listing-end
-part-put-listing-end c = omega (arith, settles (c .before .before .before .before) .cells-lie)
+part-put-page-end : tie.Need-part-put-page-end
+part-put-page-end c = omega (arith, settles (c .before .before .before .before) .cells-lie)
 
-part-put-listing-end-2 : tie.Need-part-put-listing-end-2
-part-put-listing-end-2 c = omega (arith, settles (c .before .before .before .before .before .before) .words-lie)
+part-put-page-end-2 : tie.Need-part-put-page-end-2
+part-put-page-end-2 c = omega (arith, settles (c .before .before .before .before .before .before) .words-lie)
 
-put-listing-requires : tie.Need-put-listing-requires
-put-listing-requires c κs =
+put-page-requires : tie.Need-put-page-requires
+put-page-requires c κs =
     let i = c .before .before .before .before .before in
     let t = i .before .before in
-    (settled-measured _ (settles t) (i .image-behind .ensures) (sub-zero _) (sub-zero _) .0, start-of (t .before .before .before .before) .pre)
+    let m = settled-measured _ (settles t) (i .image-behind .ensures) (sub-zero _) (sub-zero _) in
+    (m .0, m .1, start-of (t .before .before .before .before) .pre)
 
 returns-2 : tie.Need-returns-2
 returns-2 c =
     let p = c .before .before in
     let i = p .before .before .before .before .before .before in
-    rw (page-settled _ (settles (i .before .before)) (i .image-behind .ensures) (sub-zero _) (sub-zero _) listing) (page-says (p .put-listing .ensures))
+    rw (page-settled _ (settles (i .before .before)) (i .image-behind .ensures) (sub-zero _) (sub-zero _) _) (page-says (p .put-page .ensures))
 
-pub batch-page-spec : {M : Type 1} → statement M
-batch-page-spec =
+pub make-page-spec : {M : Type 1} → statement M
+make-page-spec =
     tie.close
     (tie.spec
     (λ c κs. search needs)
@@ -67,11 +67,11 @@ batch-page-spec =
     (λ c κs. settles (c .before) .prefix)
     (λ c. search needs)
     (λ c. search needs)
-    part-put-listing-end
+    part-put-page-end
     (λ c. search needs)
     (λ c. search needs)
-    part-put-listing-end-2
-    put-listing-requires
+    part-put-page-end-2
+    put-page-requires
     (λ c. search needs)
     returns
     (λ c. search needs)
