@@ -1,7 +1,7 @@
 -- Document 01, "Bench sheet", tried by computation on the definition of the input, on both sides of each comparison. Assumes nothing.
 use Prim.Native.Nat.{ℕ}
 use mathlib.Core.Path.{_≡_, refl}
-use mathlib.Core.List.{List, [], _∷_, _++_, map}
+use mathlib.Core.List.{List, [], _∷_, map}
 use lib.ListN.{replicate}
 use Rattle.input.specs.Prefix.{tableIn, imageIn, cellsOf}
 use Rattle.input.specs.Opened.{opened}

@@ -10,7 +10,7 @@ use native.Mathlib.Numerals.{add-one}
 use lib.Dec.{leb}
 use lib.ListN.{length, take, replicate, length-replicate}
 use lib.Seq.{length-take-le, take-at}
-use borrow.Author.Tests.{leb-true, leb-false, le-leb, lt-leb}
+use borrow.Author.Tests.{leb-false, le-leb, lt-leb}
 use Rattle.base.proofs.Bools.{known}
 use Rattle.image.specs.declared.Refusal.{Refusal}
 use Rattle.image.specs.Limits.{maxPrograms}
@@ -22,7 +22,7 @@ use Rattle.area.proofs.Checks.{few, open-shows}
 use Rattle.steps.specs.Opening.{cleared, openArea}
 use Rattle.steps.specs.Gathering.{gatherArea}
 use Rattle.steps.specs.declared.Settled.{Settled}
-use Rattle.steps.specs.Settling.{settleTable, settleArea, SettleSays}
+use Rattle.steps.specs.Settling.{SettleSays}
 use Rattle.steps.proofs.Keeps.{open-checked, gather-checked, settle-checked}
 use Rattle.report.specs.Batch.{Lent, lent, workArea, gatherFirst, settleOne, settleFirst, batchOn}
 use Rattle.report.specs.Runs.{Leaves, RunsIn, programsIn, Fits, Runs}

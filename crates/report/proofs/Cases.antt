@@ -30,7 +30,7 @@ prefix-alone : map batchPage ((1 ∷ 0 ∷ 9 ∷ 0 ∷ 0 ∷ 0 ∷ []) ∷ (1 �
 unfolding opened
 prefix-alone = refl
 
--- the largest table is not outside, the image behind it is
+-- 256 cells are not outside: what is refused is the image, which has no byte
 largest : batchPage (0 ∷ 1 ∷ replicate 1024 0) ≡ ascii "refused 1\n"
 unfolding opened
 largest = refl

@@ -1,6 +1,5 @@
 -- Laws of an input and its page: what the tests of the prefix and the run of the batch make of it. Assumes nothing.
 use mathlib.Core.Path.{_≡_, refl, sym, ap, _∙_}
-use mathlib.Core.Bool.{true, false}
 use mathlib.Core.List.{List, _++_}
 use Prim.Native.Nat.{ℕ, _≤_, _<_}
 use native.Mathlib.Omega.{arith}
@@ -10,20 +9,18 @@ use Rattle.text.specs.Writing.{Wrote, Room}
 use Rattle.text.proofs.Writing.{pasted-front}
 use Rattle.image.specs.declared.Refusal.{Refusal}
 use Rattle.image.specs.Refusals as refusal
-use Rattle.image.specs.Refusals.{check}
 use Rattle.image.specs.Image.{countOf}
 use Rattle.image.proofs.Refusing.{fails, goes-on, none-fails, number-of, unless-refused, unless-done}
 use Rattle.area.specs.Checks.{openRefusal, Checked, Measured}
 use Rattle.area.proofs.Checks.{measured}
-use Rattle.input.specs.Prefix.{cellsNamed, tableIn, imageIn, prefixGood, cellsOf}
+use Rattle.input.specs.Prefix.{tableIn, imageIn, prefixGood, cellsOf}
 use Rattle.input.proofs.Prefixes.{Whole, cells-none, cells-good, cells-whole}
 use Rattle.results.specs.Listing.{refusedLine, mostRefused}
-use Rattle.reasons.specs.Reasons.{longestPage}
 use Rattle.results.proofs.Short.{Small, check-small, open-small, refused-short}
-use Rattle.report.specs.Batch.{lent, workArea, batchOn, tableOf, imageOf, inputRefusal, batchOf, pageOf, pageMost, PageSays}
+use Rattle.report.specs.Batch.{lent, workArea, tableOf, imageOf, inputRefusal, batchOf, pageOf, pageMost, PageSays}
 use Rattle.report.specs.declared.Page.{Page}
 use Rattle.report.specs.declared.Page.the-variants.{Results, Reasons}
-use Rattle.report.specs.Runs.{Leaves, Runs, Refuses, Settles}
+use Rattle.report.specs.Runs.{Runs, Refuses, Settles}
 use Rattle.report.proofs.Batches.{batch-checked}
 
 -- ---- the run of an input

@@ -1,7 +1,7 @@
 -- Document 01, "Bench sheet", tried by computation on the definition of the listing. Assumes nothing.
 use Prim.Native.Nat.{ℕ}
 use mathlib.Core.Path.{_≡_, refl}
-use mathlib.Core.List.{List, [], _∷_, map}
+use mathlib.Core.List.{[], _∷_, map}
 use Rattle.text.specs.Ascii.{ascii}
 use Rattle.image.specs.Refusals.{refusing}
 use Rattle.image.specs.Assembler.{image}

@@ -5,7 +5,7 @@ ghost use Prim.Native.Nat.{_≤_, _<_};
 ghost use lib.ListN.{length};
 ghost use Rattle.text.specs.Writing.{Room, Wrote};
 ghost use Rattle.text.specs.Filled.{texts};
-ghost use Rattle.image.specs.Limits.{maxPrograms, maxCells};
+ghost use Rattle.image.specs.Limits.{maxCells};
 ghost use Rattle.image.specs.Image.{countOf};
 ghost use Rattle.area.specs.Checks.{Measured, HasSlot};
 ghost use Rattle.results.specs.Listing.{refusedLine, ruleInForce, firstLine, wordOf, programLine, programLines};

@@ -1,5 +1,5 @@
 -- A prefix that is not good is refused; what opening refuses is told; otherwise the first cells and words are what the batch leaves. Assumes nothing.
-use mathlib.Core.Path.{_≡_, _∙_}
+use mathlib.Core.Path.{_≡_}
 use Prim.Native.Nat.{_-_}
 use native.Mathlib.Omega.{arith}
 use lib.ListN.{length, take}

@@ -1,5 +1,4 @@
 -- Four writes, one after another: the first line, the programs, the order, the cells. Assumes nothing.
-use mathlib.Core.Path.{_≡_}
 use mathlib.Core.List.{List, _++_}
 use Prim.Native.Nat.{ℕ}
 use lib.ListN.{length}
