@@ -26,9 +26,6 @@ unfolding sheetText
 sheet-append [] ms = refl
 sheet-append (l ∷ ls) ms = rw (sheet-append ls ms, append-assoc)
 
-pub length-sheet : (ls ms : List Line) → length (sheetText (ls ++ ms)) ≡ length (sheetText ls) + length (sheetText ms)
-length-sheet ls ms = rw (sheet-append ls ms, length-append)
-
 -- ---- a line
 
 pub rule-line : (r : ℕ) → filled (ascii "rule #\n") (r ∷ []) ≡ sheetText (line.Rule r ∷ [])

@@ -6,7 +6,7 @@ use mathlib.Core.Bool.{Bool, true, false, _&&_}
 use mathlib.Core.List.{List, [], _∷_}
 use Prim.Native.Nat.{ℕ, zero, suc, _+_, _*_, _≤_, _<_, min}
 use native.Mathlib.Omega.{arith}
-use lib.Dec.{eqb, ltb, leb}
+use lib.Dec.{eqb, ltb}
 use lib.ListN.{length, getD, take, drop, length-append}
 use lib.Seq.{getD-drop}
 use borrow.Author.Tests.{ltb-true, ltb-false, leb-true, le-leb, eqb-true, eqb-false}
@@ -16,15 +16,16 @@ use Rattle.text.specs.Decimal.{decimal}
 use Rattle.text.specs.Filled.{texts}
 use Rattle.text.proofs.Decimals.{length-small, byte-short, pair-short}
 use Rattle.text.proofs.Fillings.{texts-short}
-use Rattle.image.specs.Limits.{maxPrograms, maxInstructions, registers}
+use Rattle.image.specs.Limits.{maxInstructions, registers}
 use Rattle.image.specs.Instruction.{isRegister, skipGood, instructionGood, instructionsOf, placeGood}
-use Rattle.image.specs.Image.{byteAt, countOf, ruleByte, offsetOf, bytesOf, partOf, headerGood, refusalOf}
+use Rattle.image.specs.Image.{countOf, ruleByte, offsetOf, bytesOf, partOf, refusalOf}
 use Rattle.image.specs.Refusals as refusal
 use Rattle.image.specs.Refusals.{passes}
 use Rattle.image.proofs.Laws.{accepted}
 use Rattle.image.proofs.Refusing.{none-is, none-after, goes-on, first-refuses, first-passes, unless-either}
 use Rattle.sheet.specs.declared.Written.the-variants.{Refused}
 use Rattle.sheet.specs.Answers.{numbersOfWritten}
+use Rattle.writer.proofs.Again.{small-rule}
 use Rattle.sheet.specs.Sheet.{names, nameOf, sheetText}
 use Rattle.from_image.specs.FromImage.{instructionAt, programLines, sheetOfImage, sheetOfRefusal, sheetOfAnswer}
 use Rattle.from_image.specs.Typing.{Good}
@@ -146,12 +147,6 @@ module _ (program : List ℕ) (bytes : (i : ℕ) → getD program i 0 < 256) (go
 
 -- ---- the programs of an image
 
-small-rule : (image : List ℕ) → refusalOf image .number ≡ 0 → ruleByte image ≤ 2
-unfolding headerGood
-small-rule image none =
-    leb-true (ruleByte image) 2
-    (all-three (leb (countOf image) maxPrograms) (leb (ruleByte image) 2) (eqb (byteAt image 3) 0) (accepted image none .header) .1)
-
 -- the members of a part are members of the whole, or 0
 take-small : (most n : ℕ) (xs : List ℕ) → 0 < most → ((i : ℕ) → getD xs i 0 < most) → (i : ℕ) → getD (take n xs) i 0 < most
 take-small most zero xs p h i = p
@@ -171,7 +166,7 @@ module _ (image : List ℕ) (bytes : (i : ℕ) → getD image i 0 < 256) where
       let p = good-programs image refl none in
       let n = countOf image in
       let t = texts-short (programText image) n longestProgram (λ k l. program-short (partOf image k) (part-bytes k) (p .good k l)) in
-      let rule = length-small (ruleByte image) (omega (arith, small-rule image none)) in
+      let rule = length-small (ruleByte image) (omega (arith, small-rule image (accepted image none))) in
       omega (arith, length-sheet-of image refl refl, ap length (programs-texts image n), t, rule, p .few)
 
   -- so that an output of this many bytes is never too short

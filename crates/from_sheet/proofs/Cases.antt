@@ -3,11 +3,10 @@
 use Prim.Native.Nat.{ℕ}
 use mathlib.Core.Path.{_≡_, refl}
 use mathlib.Core.List.{List, [], _∷_, _++_, map}
-use lib.ListN.{length, replicate}
+use lib.ListN.{replicate}
 use Rattle.text.specs.Ascii.{ascii}
 use Rattle.image.specs.Refusals.{refusing}
 use Rattle.image.specs.Assembler.{joined}
-use Rattle.sheet.specs.declared.Written.{Written}
 use Rattle.sheet.specs.declared.Written.the-variants.{Refused, BadLine, Length}
 use Rattle.from_sheet.specs.FromSheet.{imageOfAnswer, imageOfOutput}
 use Rattle.from_sheet.specs.Opened.{opened}

@@ -9,7 +9,7 @@ use Rattle.writer.specs.Joined.{number, joined, ends, offsets, imageOf}
 use Rattle.sheet.specs.declared.Line.{Line}
 use Rattle.sheet.specs.declared.Line.the-variants as line
 use Rattle.writer.proofs.Programs.{length-image}
-use Rattle.sheet.specs.Sheet.{bytesOf, linesOf, ruleOf, leading, programs}
+use Rattle.sheet.specs.Sheet.{bytesOf, ruleOf, leading, programs}
 use Rattle.from_sheet.specs.FromSheet.{imageOfSheet}
 use Rattle.from_sheet.specs.Passes.{linesFrom, bodyOf, bodies, offsetAt, offsetsFrom, Writable}
 use Rattle.from_sheet.proofs.Passing.{lines-all}

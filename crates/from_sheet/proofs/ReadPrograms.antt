@@ -1,5 +1,5 @@
 -- Laws of reading the programs of a sheet one after another. Assumes nothing.
-use mathlib.Core.Path.{_≡_, refl, sym, ap, _∙_}
+use mathlib.Core.Path.{_≡_, refl, sym}
 use mathlib.Core.Bool.{Bool, true, false, _&&_}
 use mathlib.Core.List.{List, [], _∷_, _++_, append-assoc, append-nil}
 use Prim.Native.Nat.{ℕ, _+_, _≤_}
@@ -7,7 +7,7 @@ use native.Mathlib.Omega.{arith}
 use lib.Dec.{leb}
 use lib.ListN.{length, take, length-append}
 use borrow.Author.Tests.{leb-true}
-use Rattle.base.proofs.Bools.{and-both, both-and}
+use Rattle.base.proofs.Bools.{and-both}
 use Rattle.base.specs.Words.{every}
 use Rattle.text.specs.Writing.{Wrote, Room}
 use Rattle.text.proofs.Writing.{wrote-up-to}

@@ -1,13 +1,13 @@
 -- The checks of the call that reads a sheet: what its sizes show, and what the call answers and leaves. Assumes nothing.
 use mathlib.Core.Path.{_≡_, refl, sym, ap, _∙_}
 use mathlib.Core.Bool.{Bool, true, false, cond}
-use mathlib.Core.List.{List, [], _∷_, _++_}
+use mathlib.Core.List.{List, []}
 use Prim.Native.Nat.{ℕ, _+_, _*_, _≤_, _<_}
 use native.Mathlib.Omega.{arith}
 use lib.Dec.{eqb, leb}
 use lib.ListN.{length}
 use borrow.Author.Tests.{leb-true, le-leb, lt-leb, eq-eqb, ne-eqb}
-use Rattle.text.specs.Writing.{Wrote, Room}
+use Rattle.text.specs.Writing.{Wrote}
 use Rattle.text.proofs.Writing.{pasted-front}
 use Rattle.image.specs.Limits.{maxPrograms, maxInstructions, instructionBytes, headBytes, maxBytes}
 use Rattle.image.specs.declared.Refusal.{Refusal}
@@ -16,11 +16,11 @@ use Rattle.image.proofs.Refusing.{fails, goes-on, none-fails, first-refuses, fi
 use Rattle.writer.proofs.Programs.{length-image}
 use Rattle.sheet.specs.declared.Written.the-variants.{Refused, BadLine, Length}
 use Rattle.sheet.specs.Answers.{numbersOfWritten}
-use Rattle.sheet.specs.Sheet.{linesOf, badLine, ruleOf, leading, programs}
+use Rattle.sheet.specs.Sheet.{linesOf, badLine, ruleOf, programs}
 use Rattle.from_sheet.specs.declared.counting.Sizes.{Sizes}
 use Rattle.from_sheet.specs.FromSheet.{programsOf, imageOfSheet, fewPrograms, shortPrograms, goodPrograms, programsRefusal, sheetRefusal, imageOfRefusal}
 use Rattle.from_sheet.specs.FromSheet.{refusedBy, imageOfAnswer, imageOfOutput, ImageOfSays}
-use Rattle.from_sheet.specs.Passes.{linesFrom, tally, nothing, bodies, stillShort, stillGood, Sized, Writable}
+use Rattle.from_sheet.specs.Passes.{linesFrom, nothing, bodies, stillShort, stillGood, Sized, Writable}
 use Rattle.from_sheet.proofs.Passing.{lines-all}
 use Rattle.from_sheet.proofs.Pieces.{all-bodies}
 use Rattle.from_sheet.proofs.Sizing.{tally-programs, tally-bytes, tally-longest, joined-short}

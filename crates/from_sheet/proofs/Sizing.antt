@@ -1,10 +1,10 @@
 -- What the sizes of a sheet say of its programs. Assumes nothing.
-use mathlib.Core.Path.{_≡_, refl, sym, ap, _∙_}
+use mathlib.Core.Path.{_≡_, refl, _∙_}
 use mathlib.Core.Bool.{Bool, true, false, cond, _&&_}
 use mathlib.Core.List.{List, [], _∷_, _++_, append-assoc, append-nil, map}
-use Prim.Native.Nat.{ℕ, zero, suc, _+_, _*_, _≤_, _<_, max}
+use Prim.Native.Nat.{ℕ, suc, _+_, _*_, _≤_, max}
 use native.Mathlib.Omega.{arith}
-use lib.Dec.{eqb, leb}
+use lib.Dec.{leb}
 use lib.ListN.{length, length-append}
 use borrow.Author.Tests.{leb-true, le-leb}
 use Rattle.base.proofs.Bools.{clash, and-both, both-and, same-test}
@@ -18,7 +18,7 @@ use Rattle.sheet.specs.Sheet.{newline, lineOf, linesOf, allowed, ended, badFrom
 use Rattle.sheet.specs.Opened.{opened}
 use Rattle.from_sheet.specs.declared.counting.Sizes.{Sizes}
 use Rattle.from_sheet.specs.FromSheet.{all, shortPrograms}
-use Rattle.from_sheet.specs.Passes.{counted, tally, nothing, bodyOf, bodies, stillShort}
+use Rattle.from_sheet.specs.Passes.{counted, tally, bodyOf, bodies, stillShort}
 
 -- ---- how many programs, how many instructions
 

@@ -1,7 +1,7 @@
 -- Every listing is short: its numbers have 32 bits, so each text in it is at most its own length and ten digits for each number. Assumes nothing.
 use mathlib.Core.Bool.{Bool, true, false, cond}
 use mathlib.Core.List.{List, [], _∷_, _++_}
-use Prim.Native.Nat.{ℕ, zero, suc, _+_, _≤_, _<_}
+use Prim.Native.Nat.{ℕ, zero, suc, _≤_, _<_}
 use native.Mathlib.Omega.{arith}
 use lib.Dec.{eqb, leb}
 use lib.ListN.{length, getD, length-append}
@@ -12,7 +12,6 @@ use Rattle.text.specs.Filled.{filled, texts}
 use Rattle.text.proofs.Fillings.{filled-short, texts-short}
 use Rattle.image.specs.declared.Refusal.{Refusal}
 use Rattle.image.specs.Limits.{maxPrograms, maxCells}
-use Rattle.image.specs.Refusals as refusal
 use Rattle.image.specs.Refusals.{check}
 use Rattle.image.specs.Image.{countOf, secondRule, sizeGood, headerGood, headerOf, offsetsGood, codeGood, refusalOf}
 use Rattle.image.proofs.Refusing.{unless-either}

@@ -4,11 +4,10 @@ use mathlib.Core.Path.{_≡_, refl}
 use mathlib.Core.List.{List, [], _∷_, _++_, map}
 use lib.ListN.{length, replicate}
 use Rattle.text.specs.Ascii.{ascii}
-use Rattle.sheet.specs.declared.Instruction.{Instruction}
 use Rattle.sheet.specs.declared.Line.{Line}
 use Rattle.sheet.specs.declared.Line.the-variants.{Rule, Program, Instruction as Does, Other}
 use Rattle.sheet.specs.Split.{split}
-use Rattle.sheet.specs.Sheet.{newline, space, names, operations, lineText, lineOf, sheetText, linesOf, badLine, ruleOf, programs}
+use Rattle.sheet.specs.Sheet.{space, names, lineText, lineOf, sheetText, linesOf, badLine, ruleOf, programs}
 use Rattle.sheet.specs.Opened.{opened}
 
 abbrev does : ℕ → ℕ → ℕ → ℕ → Line

@@ -15,7 +15,7 @@ use Rattle.carry.specs.Opened as carry
 use Rattle.text.specs.Ascii.{ascii}
 use Rattle.from_sheet.specs.Opened as from-sheet
 use Rattle.from_image.specs.Opened as from-image
-use Rattle.sheetbendle_c.specs.Calls.{PartTells, ProgramRefusalTells, OpenTells, CountTells, GatherTells, SettleTells, WhyTells, OrderTells, NextTells, lineShown, TextTells, ImageOfTells, SheetOfTells}
+use Rattle.sheetbendle_c.specs.Calls.{PartTells, ProgramRefusalTells, OpenTells, CountTells, GatherTells, SettleTells, WhyTells, OrderTells, NextTells, lineShown, ImageOfTells, SheetOfTells}
 
 -- of two programs, number 1 begins at byte 14 and has 8 bytes; there is no number 2
 abbrev two : List ℕ

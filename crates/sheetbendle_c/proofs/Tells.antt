@@ -34,9 +34,9 @@ use Rattle.carry.proofs.Nexts.{next-good}
 use Rattle.numbers.specs.declared.StepNumbers.{StepNumbers}
 use Rattle.sheet.specs.declared.Written.{Written}
 use Rattle.sheet.specs.Answers.{numbersOfWritten}
-use Rattle.from_sheet.specs.FromSheet.{imageOfAnswer, ImageOfSays}
+use Rattle.from_sheet.specs.FromSheet.{ImageOfSays}
 use Rattle.from_sheet.proofs.Says.{image-small}
-use Rattle.from_image.specs.FromImage.{sheetOfAnswer, SheetOfSays}
+use Rattle.from_image.specs.FromImage.{SheetOfSays}
 use Rattle.from_image.specs.Longest.{longestSheet}
 use Rattle.from_image.proofs.Longest.{sheet-small}
 use Rattle.numbers.specs.declared.CauseNumbers.{CauseNumbers}

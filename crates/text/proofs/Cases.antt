@@ -1,12 +1,10 @@
 -- Text tried by computation on the definitions. The numbers are literals. Assumes nothing.
-use Prim.Native.Nat.{ℕ}
 use mathlib.Core.Path.{_≡_, refl}
-use mathlib.Core.Bool.{Bool, true, false}
-use mathlib.Core.List.{List, [], _∷_, map}
-use Rattle.text.specs.declared.Numeral.{Numeral}
+use mathlib.Core.Bool.{true, false}
+use mathlib.Core.List.{[], _∷_, map}
 use Rattle.text.specs.declared.Numeral.the-variants.{Number, TooLarge, NoNumber}
 use Rattle.text.specs.Ascii.{ascii}
-use Rattle.text.specs.Decimal.{decimal, isNumber, value, numeral}
+use Rattle.text.specs.Decimal.{decimal, isNumber, numeral}
 use Rattle.text.specs.Filled.{filled, texts}
 use Rattle.text.specs.Writing.{pasted}
 use Rattle.text.specs.Opened.{opened}

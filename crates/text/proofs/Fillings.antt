@@ -1,5 +1,5 @@
 -- Laws of a text with numbers in it. Assumes nothing.
-use mathlib.Core.Path.{_≡_, refl, sym, ap, _∙_}
+use mathlib.Core.Path.{_≡_, refl, ap, _∙_}
 use mathlib.Core.Logic.{_⊎_, inl, inr}
 use mathlib.Core.Bool.{Bool, true, false, cond, _&&_}
 use mathlib.Core.List.{List, [], _∷_, _++_, append-assoc, append-nil}
@@ -11,11 +11,10 @@ use lib.ListN.{length, getD, drop, length-append, drop-of-length-le}
 use lib.Seq.{drop-cons}
 use borrow.Author.Tests.{ltb-true, ltb-false}
 use Rattle.base.proofs.Bools.{known, and-both}
-use Rattle.text.specs.declared.Filling.{Filling}
 use Rattle.text.specs.Decimal.{decimal}
-use Rattle.text.specs.Filled.{hash, shown, left, filled, texts, Shown}
+use Rattle.text.specs.Filled.{hash, shown, left, filled, texts}
 use Rattle.text.specs.Writing.{Wrote, Room}
-use Rattle.text.proofs.Writing.{wrote-none, room-first, room-then, wrote-both}
+use Rattle.text.proofs.Writing.{room-first, room-then, wrote-both}
 use Rattle.text.proofs.Decimals.{decimal-short}
 
 -- ---- one byte: a # while there is a number, and any other

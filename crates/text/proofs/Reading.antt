@@ -1,17 +1,16 @@
 -- Laws of reading a number, one byte a turn. Assumes nothing.
-use mathlib.Core.Path.{_≡_, refl, sym, ap, _∙_}
-use mathlib.Core.Bool.{Bool, true, false, not, cond, _&&_}
+use mathlib.Core.Path.{_≡_, refl, sym, ap}
+use mathlib.Core.Bool.{true, false, not, _&&_}
 use mathlib.Core.List.{List, [], _∷_}
 use mathlib.Core.Logic.{_⊎_, inl, inr}
-use Prim.Native.Nat.{ℕ, zero, suc, _+_, _-_, _*_, _≤_, _<_, min}
+use Prim.Native.Nat.{ℕ, suc, _+_, _-_, _*_, _≤_, _<_}
 use native.Mathlib.Omega.{arith}
 use native.Mathlib.Numerals.{add-one}
-use lib.Dec.{eqb, leb, ltb}
+use lib.Dec.{eqb, leb}
 use lib.ListN.{length, getD, drop, drop-of-length-le}
 use lib.Seq.{drop-cons}
 use borrow.Author.Tests.{le-leb, leb-true, leb-false, lt-leb}
-use Rattle.base.proofs.Bools.{known, both-and}
-use Rattle.text.specs.declared.Numeral.{Numeral}
+use Rattle.base.proofs.Bools.{known}
 use Rattle.text.specs.declared.Numeral.the-variants.{Number, TooLarge, NoNumber}
 use Rattle.text.specs.Decimal.{digit, isDigit, allDigits, leads, isNumber, valueFrom, value, numeral, over, capped}
 

@@ -87,10 +87,6 @@ module _ {d : List ℕ} {at : ℕ} {whole out : List ℕ} {to : ℕ} {rest : Lis
         let f : whole ≡ (p .so-far ++ x) ++ rest′ = p .is ∙ rw e (sym (append-assoc (p .so-far) x rest′)) in
         record { so-far = p .so-far ++ x; wrote = wrote-both (p .so-far) x (room-first (p .so-far ++ x) rest′ (rw f at room)) (p .wrote) w; is = f }
 
-  -- nothing is written of it
-  pub partly-same : {rest′ : List ℕ} → rest ≡ rest′ → Partly d at whole out to rest′
-  partly-same e = record { so-far = p .so-far; wrote = p .wrote; is = p .is ∙ rw e }
-
 -- ---- one byte, two bytes; and a copy, one byte a turn
 
 pub wrote-byte : (d : List ℕ) (at x : ℕ) → Room d at (x ∷ []) → Wrote d at (x ∷ []) (set d at x) (at + 1)

@@ -1,7 +1,7 @@
 -- At each return the checks that led there have passed, and the last of them fails. Assumes nothing.
 use mathlib.Core.Path.{_≡_, refl, sym, _∙_}
 use mathlib.Core.Bool.{true}
-use borrow.Author.Tests.{le-leb, lt-leb, not-true, not-false}
+use borrow.Author.Tests.{le-leb, lt-leb}
 use denote.Ref.{now}
 use Rattle.image.specs.Limits.{maxPrograms, maxInstructions}
 use Rattle.image.proofs.Refusing.{fails, goes-on, refuses, accepts}

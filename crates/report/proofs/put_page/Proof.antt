@@ -1,11 +1,11 @@
 -- In each arm the page is that one. Assumes nothing.
-use mathlib.Core.Path.{subst, sym}
+use mathlib.Core.Path.{subst}
 use Prim.Native.Nat.{_≤_}
 use lib.ListN.{length}
 use borrow.Author.Needs.{needs}
 use denote.Ref.{now}
 use Rattle.report.specs.declared.Page.{Page}
-use Rattle.report.specs.Batch.{pageText, pageMost}
+use Rattle.report.specs.Batch.{pageMost}
 use Rattle.report.proofs.put_page.Statement.{statement}
 use Rattle.report.proofs.put_page.Tie as tie
 

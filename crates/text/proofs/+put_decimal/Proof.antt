@@ -1,12 +1,11 @@
 -- Below 10 it is one digit; otherwise those of n / 10 are written first, and the last one goes behind them. The measure is the number.
 -- Assumes nothing.
 use mathlib.Core.List.{[], _∷_}
-use Prim.Native.Nat.{ℕ, _<_, _≤_, _/_, _%_}
+use Prim.Native.Nat.{ℕ, _<_, _/_, _%_}
 use native.Mathlib.Omega.{arith}
 use borrow.Author.Needs.{needs}
 use borrow.Fn.Kinds.{In}
 use borrow.Fn.PlainCycle.{Measures, is, falls, and}
-use denote.Ref.{now}
 use Rattle.text.specs.Decimal.{digit, decimal}
 use Rattle.text.proofs.Writing.{room-first, room-then, wrote-both}
 use Rattle.text.proofs.Decimals.{decimal-small, decimal-large}

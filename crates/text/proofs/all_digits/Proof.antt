@@ -2,11 +2,11 @@
 use mathlib.Core.Path.{_≡_, refl, sym, _∙_}
 use Prim.Native.Nat.{_≤_, _-_}
 use native.Mathlib.Omega.{arith}
-use lib.ListN.{length, drop}
+use lib.ListN.{drop}
 use borrow.Author.Needs.{needs}
 use borrow.Author.Tests.{not-true, not-false}
 use denote.Ref.{now}
-use Rattle.text.specs.Decimal.{isDigit, allDigits}
+use Rattle.text.specs.Decimal.{allDigits}
 use Rattle.text.proofs.Reading.{digits-end, digits-next}
 use Rattle.text.proofs.all_digits.Statement.{statement}
 use Rattle.text.proofs.all_digits.Tie as tie

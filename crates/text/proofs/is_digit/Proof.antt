@@ -1,5 +1,4 @@
 -- The first test fails, or the second decides. Assumes nothing.
-use mathlib.Core.Path.{_≡_}
 use borrow.Author.Tests.{lt-leb, le-leb}
 use Rattle.text.specs.Decimal.{digit, isDigit}
 use Rattle.text.proofs.is_digit.Statement.{statement}

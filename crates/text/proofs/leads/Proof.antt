@@ -1,5 +1,4 @@
 -- A short word has one byte or none; of a longer one the first byte decides. Assumes nothing.
-use native.Mathlib.Omega.{arith}
 use borrow.Author.Needs.{needs}
 use denote.Ref.{now}
 use Rattle.text.proofs.Reading.{leads-short, leads-long}

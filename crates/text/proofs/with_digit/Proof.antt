@@ -1,5 +1,4 @@
 -- The digit is one, so nothing goes below 0. Assumes nothing.
-use native.Mathlib.Omega.{arith}
 use borrow.Author.Needs.{needs}
 use Rattle.text.proofs.Decimals.{digit-is}
 use Rattle.text.proofs.with_digit.Statement.{statement}

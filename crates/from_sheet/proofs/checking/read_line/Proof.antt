@@ -1,7 +1,6 @@
 -- In each arm the line is of that kind. Assumes nothing.
-use mathlib.Core.Path.{_≡_, refl, sym}
+use mathlib.Core.Path.{refl}
 use native.Mathlib.Omega.{arith}
-use lib.ListN.{length}
 use borrow.Author.Needs.{needs}
 use Rattle.text.specs.Writing.{Room}
 use Rattle.sheet.specs.Sheet.{bytesOf}

@@ -1,5 +1,4 @@
 -- In each arm the line is of that kind. Assumes nothing.
-use mathlib.Core.Path.{sym}
 use borrow.Author.Needs.{needs}
 use Rattle.text.proofs.Writing.{wrote-none}
 use Rattle.from_sheet.specs.Passes.{bodyOf}

@@ -1,5 +1,4 @@
 -- The first line says it. Assumes nothing.
-use mathlib.Core.Path.{_≡_}
 use borrow.Author.Needs.{needs}
 use Rattle.sheet.specs.Sheet.{ruleIn, ruleOf}
 use Rattle.from_sheet.proofs.writing.rule_of.Statement.{statement}

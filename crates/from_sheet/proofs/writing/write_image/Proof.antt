@@ -3,10 +3,8 @@ use mathlib.Core.Path.{refl, sym, ap}
 use mathlib.Core.List.{List, [], _∷_, _++_, append-nil}
 use Prim.Native.Nat.{ℕ}
 use native.Mathlib.Omega.{arith}
-use lib.ListN.{length}
 use borrow.Author.Needs.{needs}
 use denote.Ref.{now}
-use Rattle.text.specs.Writing.{Wrote}
 use Rattle.text.proofs.Writing.{Partly, partly-none, partly-room, partly-more, partly-end}
 use Rattle.image.specs.Limits.{headBytes}
 use Rattle.writer.specs.Joined.{number}

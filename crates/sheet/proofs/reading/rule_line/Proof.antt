@@ -1,11 +1,9 @@
 -- At each return the tests that led there say which line it is. Assumes nothing.
-use mathlib.Core.Path.{refl, sym, ap, _∙_}
+use mathlib.Core.Path.{refl, sym, _∙_}
 use mathlib.Core.Logic.{inl, inr}
 use native.Mathlib.Omega.{arith}
 use borrow.Author.Needs.{needs}
 use borrow.Author.Tests.{not-true, not-false}
-use denote.Ref.{now}
-use Rattle.sheet.specs.declared.Line.the-variants as line
 use Rattle.sheet.specs.Sheet.{largestRule}
 use Rattle.sheet.proofs.ReadingLines.{up-to-over, rule-other, rule-is}
 use Rattle.sheet.proofs.reading.rule_line.Statement.{statement}
