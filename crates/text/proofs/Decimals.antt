@@ -193,7 +193,10 @@ decimal-fits (suc k) n h = go (ltb n 10) refl (decimal-fits k (n / 10) (omega ar
     go true e rest = rw (decimal-small n (ltb-true n 10 e)) (omega arith)
     go false e rest = rw (decimal-large n (ltb-false n 10 e), length-append) (omega (arith, rest))
 
--- a number of 32 bits has at most 10 digits, a byte at most 3, a number below 100 at most 2
+-- a number of 64 bits has at most 20 digits, one of 32 bits at most 10, a byte at most 3, a number below 100 at most 2
+pub wide-short : (n : ℕ) → n < 18446744073709551616 → length (decimal n) ≤ 20
+wide-short n h = decimal-fits 19 n (omega arith)
+
 pub decimal-short : (n : ℕ) → n < 4294967296 → length (decimal n) ≤ 10
 decimal-short n h = decimal-fits 9 n (omega arith)
 
