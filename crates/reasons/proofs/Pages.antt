@@ -29,7 +29,8 @@ use Rattle.causes.specs.Why.{whyAnswer, beforeAnswer}
 use Rattle.machine.specs.declared.Run.the-variants.{Faulted}
 use Rattle.machine.specs.Runs.{loadFault, storeFault, detailOfRun}
 use Rattle.sentences.specs.Sentences as sentences
-use Rattle.sentences.specs.Sentences.{rejected, refusedLine}
+use Rattle.sentences.specs.Sentences.{rejected}
+use Rattle.refused.specs.Refused.{refusedLine}
 use Rattle.reasons.specs.Reasons.{committedText, carriedText, faultedText, placeOf, programText, reasonsText}
 
 module _ (T : ℕ) (a : List ℕ) where
@@ -79,7 +80,7 @@ module _ (image t a : List ℕ) (k s : ℕ) (e : s ≡ stateOf (length t) k a) w
         unfolding programText inGroup
         says-carried h w g p q = rw (is-not _ r, is-not _ f, ← e, c, h, g, q)
 
-        pub says-not-ended : isIn Carried s ≡ false → programText image t a k ≡ refusedLine (refusal.state .number)
+        pub says-not-ended : isIn Carried s ≡ false → programText image t a k ≡ refusedLine refusal.state
         unfolding programText inGroup
         says-not-ended h = rw (is-not _ r, is-not _ f, ← e, c, h)
 

@@ -36,7 +36,8 @@ use Rattle.causes.specs.declared.answers.Before.{Before}
 use Rattle.causes.specs.declared.answers.Before.the-variants as before
 use Rattle.causes.specs.Why.{explained, explainedBy, askRefusal, carriedRefusal, whyRefusal, whyAnswer, beforeOf, beforeAnswer}
 use Rattle.sentences.specs.Sentences.{longestAgain, longest}
-use Rattle.sentences.proofs.Lengths.{Small, SmallCause, refused-short, free-short, turned-short, waw-short, raw-short, raw-with-war-short, again-short}
+use Rattle.refused.proofs.Lines.{refused-short}
+use Rattle.sentences.proofs.Lengths.{Small, SmallCause, free-short, turned-short, waw-short, raw-short, raw-with-war-short, again-short}
 use Rattle.sentences.proofs.Lengths.{rejected-short, load-fault-short, store-fault-short}
 use Rattle.reasons.specs.Reasons.{committedText, againText, carriedText, faultedText, programText, reasonsText, longestPage}
 use Rattle.reasons.proofs.Pages.{place-low}
@@ -117,7 +118,7 @@ module _ (T : ℕ) (few : T ≤ maxCells) (a : List ℕ) (words : WordsOf a) whe
 
 committed-short : (b : Before) (k : ℕ) → SmallBefore b → Small k → length (committedText b k) ≤ longest
 unfolding committedText
-committed-short (before.Refused r) k s h = omega (arith, refused-short (r .number) (omega arith))
+committed-short (before.Refused r) k s h = omega (arith, refused-short r (omega arith))
 committed-short before.Nobody k s h = omega (arith, free-short k h)
 committed-short (before.Program c) k s h = omega (arith, turned-short k h c s)
 
@@ -127,7 +128,7 @@ came-again-short p l = again-short p _ (omega arith) (omega arith)
 
 carried-short : (w : Why) (k p : ℕ) → SmallWhy w → Small k → p < maxPrograms → length (carriedText w k p) ≤ longest
 unfolding carriedText
-carried-short (why.Refused r) k p s h l = omega (arith, refused-short (r .number) (omega arith))
+carried-short (why.Refused r) k p s h l = omega (arith, refused-short r (omega arith))
 carried-short (why.Waw c) k p s h l = rw length-append (omega (arith, waw-short k h c s, came-again-short p l))
 carried-short (why.Raw c) k p s h l = rw length-append (omega (arith, raw-short k h c s, came-again-short p l))
 carried-short (why.RawWithWar c d) k p s h l =
@@ -145,7 +146,7 @@ faulted-short k d T h few =
     let last : Small (T - 1) = omega arith in
     either-short (eqb (d / 256) run.loadFault) _ _ (omega (arith, load-fault-short k h (d % 256) (T - 1) place last))
     (either-short (eqb (d / 256) run.storeFault) _ _ (omega (arith, store-fault-short k h (d % 256) (T - 1) place last))
-    (omega (arith, refused-short (refusal.reason .number) (omega arith))))
+    (omega (arith, refused-short refusal.reason (omega arith))))
 
 module _ (image t a : List ℕ) (few : length t ≤ maxCells) (words : WordsOf a) where
   pub program-short : (k : ℕ) → k < maxPrograms → length (programText image t a k) ≤ longest
@@ -160,7 +161,7 @@ module _ (image t a : List ℕ) (few : length t ≤ maxCells) (words : WordsOf a
       (either-short (eqb (stateOf (length t) k a) state.faulted) _ _ (faulted-short k _ (length t) h few)
       (either-short (inGroup Committed (length t) a k) _ _ (committed-short _ k b h)
       (either-short (inGroup Carried (length t) a k) _ _ (carried-short _ k _ w h (omega (arith, place-low (length t) a k)))
-      (omega (arith, refused-short (refusal.state .number) (omega arith))))))
+      (omega (arith, refused-short refusal.state (omega arith))))))
 
 -- ---- and so every page fits where there is room for the longest
 

@@ -19,13 +19,14 @@ use Rattle.causes.specs.declared.answers.Why.the-variants as why
 use Rattle.causes.specs.declared.answers.Before.{Before}
 use Rattle.causes.specs.declared.answers.Before.the-variants as before
 use Rattle.causes.specs.Why.{whyAnswer, beforeAnswer}
-use Rattle.sentences.specs.Sentences.{refusedLine, free, turned, waw, raw, rawWithWar, again, rejected, loadFault, storeFault, longest}
+use Rattle.refused.specs.Refused.{refusedLine}
+use Rattle.sentences.specs.Sentences.{free, turned, waw, raw, rawWithWar, again, rejected, loadFault, storeFault, longest}
 
 -- ---- by what the library answers
 
 -- a committed program, by before whom it comes
 unfoldable pub committedText : Before → (number : ℕ) → List ℕ
-committedText (before.Refused r) number = refusedLine (r .number)
+committedText (before.Refused r) number = refusedLine r
 committedText before.Nobody number = free number
 committedText (before.Program cause) number = turned number cause
 
@@ -35,7 +36,7 @@ againText place = again place (place + 1)
 
 -- a carried program, by why it was carried
 unfoldable pub carriedText : Why → (number place : ℕ) → List ℕ
-carriedText (why.Refused r) number place = refusedLine (r .number)
+carriedText (why.Refused r) number place = refusedLine r
 carriedText (why.Waw cause) number place = waw number cause ++ againText place
 carriedText (why.Raw cause) number place = raw number cause ++ againText place
 carriedText (why.RawWithWar cause war) number place = rawWithWar number cause war ++ againText place
@@ -45,7 +46,7 @@ unfoldable pub faultedText : (number detail T : ℕ) → List ℕ
 faultedText number detail T =
     cond (eqb (detail / 256) run.loadFault) (loadFault number (detail % 256) (T - 1))
     (cond (eqb (detail / 256) run.storeFault) (storeFault number (detail % 256) (T - 1))
-    (refusedLine (refusal.reason .number)))
+    (refusedLine refusal.reason))
 
 -- ---- the page
 
@@ -60,7 +61,7 @@ programText image t a k =
     (cond (eqb (stateOf (length t) k a) state.faulted) (faultedText k (detailOf (length t) k a) (length t))
     (cond (inGroup Committed (length t) a k) (committedText (beforeAnswer image t a k) k)
     (cond (inGroup Carried (length t) a k) (carriedText (whyAnswer image t a k) k (placeOf (length t) k a))
-    (refusedLine (refusal.state .number)))))
+    (refusedLine refusal.state))))
 
 -- every program
 unfoldable pub reasonsText : (image t a : List ℕ) → List ℕ

@@ -28,7 +28,7 @@ fn put_committed(out: &mut [u8], at: usize, answer: causes::Before, number: u32)
     ensures { λ r. ⌜ Wrote (now (out .entry)) at (committedText answer number) (now (out .exit)) r ⌝ }
 {
     match answer {
-        causes::Before::Refused(refusal) => sentences::put_refused(out, at, refusal),
+        causes::Before::Refused(refusal) => refused::put_refused(out, at, refusal),
         causes::Before::Nobody => sentences::put_free(out, at, number),
         causes::Before::Program(cause) => sentences::put_turned(out, at, number, cause),
     }
@@ -48,7 +48,7 @@ fn put_carried(out: &mut [u8], at: usize, answer: causes::Why, number: u32, plac
     ensures { λ r. ⌜ Wrote (now (out .entry)) at (carriedText answer number place) (now (out .exit)) r ⌝ }
 {
     match answer {
-        causes::Why::Refused(refusal) => sentences::put_refused(out, at, refusal),
+        causes::Why::Refused(refusal) => refused::put_refused(out, at, refusal),
         causes::Why::Waw(cause) => {
             let next = sentences::put_waw(out, at, number, cause);
             put_again(out, next, place)
@@ -78,7 +78,7 @@ fn put_faulted(out: &mut [u8], at: usize, number: u32, detail: u32, cells: usize
     if kind == machine::STORE_FAULT as u32 {
         return sentences::put_store_fault(out, at, number, place, last);
     }
-    sentences::put_refused(out, at, image::Refusal::REASON)
+    refused::put_refused(out, at, image::Refusal::REASON)
 }
 
 // One more than so many, if the state is that of a carried program.
@@ -134,7 +134,7 @@ fn put_program(
         let answer = causes::why(image, table, area, number);
         return put_carried(out, at, answer, shown, place_of(area, cells, number));
     }
-    sentences::put_refused(out, at, image::Refusal::STATE)
+    refused::put_refused(out, at, image::Refusal::STATE)
 }
 
 // Every program of a settled batch, in number order.

@@ -1,7 +1,6 @@
 -- The line of a refusal, tried by computation on the definitions. The numbers are literals. Assumes nothing.
-use Prim.Native.Nat.{ℕ}
 use mathlib.Core.Path.{_≡_, refl}
-use mathlib.Core.List.{List, [], _∷_, map}
+use mathlib.Core.List.{[], _∷_}
 use Rattle.text.specs.Ascii.{ascii}
 use Rattle.image.specs.Refusals.{refusing}
 use Rattle.refused.specs.Refused.{refusedLine, refusedAtLine}

@@ -15,8 +15,9 @@ use Rattle.area.specs.Checks.{openRefusal, Checked, Measured}
 use Rattle.area.proofs.Checks.{measured}
 use Rattle.input.specs.Prefix.{tableIn, imageIn, prefixGood, cellsOf}
 use Rattle.input.proofs.Prefixes.{Whole, cells-none, cells-good, cells-whole}
-use Rattle.results.specs.Listing.{refusedLine, mostRefused}
-use Rattle.results.proofs.Short.{Small, check-small, open-small, refused-short}
+use Rattle.refused.specs.Refused.{refusedLine, mostRefused}
+use Rattle.refused.proofs.Lines.{refused-short}
+use Rattle.results.proofs.Short.{Small, check-small, open-small}
 use Rattle.report.specs.Batch.{lent, workArea, tableOf, imageOf, inputRefusal, batchOf, pageOf, pageMost, PageSays}
 use Rattle.report.specs.declared.Page.{Page}
 use Rattle.report.specs.declared.Page.the-variants.{Results, Reasons}

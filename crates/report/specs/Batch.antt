@@ -14,7 +14,8 @@ use Rattle.steps.specs.Gathering.{gatherArea}
 use Rattle.steps.specs.Settling.{settleTable, settleArea}
 use Rattle.listing.specs.Listing.{overwritten}
 use Rattle.input.specs.Prefix.{cellsNamed, tableIn, imageIn, prefixGood}
-use Rattle.results.specs.Listing.{refusedLine, listing, mostListing}
+use Rattle.results.specs.Listing.{listing, mostListing}
+use Rattle.refused.specs.Refused.{refusedLine}
 use Rattle.reasons.specs.Reasons.{reasonsText, longestPage}
 use Rattle.report.specs.declared.Page.{Page}
 use Rattle.report.specs.declared.Page.the-variants.{Results, Reasons}

@@ -166,7 +166,7 @@ fn make_page(page: Page, input: &[u8], out: &mut [u8]) -> usize
     let mut tables = table_room();
     let mut areas = area_room();
     match run_input(input, &mut tables, &mut areas) {
-        Ran::Refused(refusal) => results::put_refused(out, 0, refusal),
+        Ran::Refused(refusal) => refused::put_refused(out, 0, refusal),
         Ran::Settled(cells, words) => {
             let image = input::image_behind(input, cells);
             put_page(page, out, image, &tables[0..cells], &areas[0..words])

@@ -3,11 +3,10 @@ use Prim.Native.Nat.{ℕ}
 use mathlib.Core.Path.{_≡_, refl}
 use mathlib.Core.List.{[], _∷_, map}
 use Rattle.text.specs.Ascii.{ascii}
-use Rattle.image.specs.Refusals.{refusing}
 use Rattle.image.specs.Assembler.{image}
 use Rattle.image.specs.Bench.{example-1, empty}
 use Rattle.area.specs.Sketch.{slot, area}
-use Rattle.results.specs.Listing.{refusedLine, wordOf, programLine, orderLine, listing, mostListing}
+use Rattle.results.specs.Listing.{wordOf, programLine, orderLine, listing, mostListing}
 use Rattle.results.specs.Opened.{opened}
 
 -- "Case 2 with T=2 prints:"
@@ -45,11 +44,6 @@ line = refl
 orders : map orderLine ([] ∷ (0 ∷ []) ∷ (63 ∷ 1 ∷ 10 ∷ []) ∷ []) ≡ ascii "order\n" ∷ ascii "order 0\n" ∷ ascii "order 63 1 10\n" ∷ []
 unfolding opened
 orders = refl
-
--- "prints "refused 5"; another refusal prints its number so"
-refusals : map (λ n. refusedLine (refusing n)) (5 ∷ 24 ∷ []) ≡ ascii "refused 5\n" ∷ ascii "refused 24\n" ∷ []
-unfolding opened
-refusals = refl
 
 -- "that line is then the whole output": of a program that waits, of an area of the wrong size, and of a bad image
 refused : listing (image 1 ([] ∷ [])) (1 ∷ []) (area (0 ∷ []) (0 ∷ []) (slot 0 0 [] [] [] ∷ []))

@@ -15,7 +15,8 @@ use Rattle.image.proofs.Refusing.{unless-refused, unless-done}
 use Rattle.listing.specs.declared.Listed.{Listed}
 use Rattle.listing.specs.declared.Listed.the-variants.{Refused, Count}
 use Rattle.listing.specs.Listing.{orderOf, orderRefusal, orderAnswer, overwritten, orderList, OrderSays}
-use Rattle.results.specs.Listing.{refusedLine, listingWith, orderRoom, listing}
+use Rattle.refused.specs.Refused.{refusedLine}
+use Rattle.results.specs.Listing.{listingWith, orderRoom, listing}
 
 -- what an answer holds
 abbrev isRefused : Listed → Bool

@@ -22,8 +22,10 @@ use Rattle.area.specs.Checks.{tableGood, sizeIs, wordsGood, allEnded, roomRefus
 use Rattle.listing.specs.Order.{ready, without, grow, listed}
 use Rattle.listing.specs.Listing.{orderOf, orderExists, listRefusal, orderRefusal}
 use Rattle.listing.proofs.Whole.{listed-members}
-use Rattle.results.specs.Listing.{refusedLine, ruleInForce, firstLine, wordOf, programLine, orderEntry, orderLine, cellLine, listingWith, orderRoom, listing}
-use Rattle.results.specs.Listing.{most, mostRefused, mostProgram, mostOrder, mostListing}
+use Rattle.refused.specs.Refused.{refusedLine}
+use Rattle.refused.proofs.Lines.{refused-short}
+use Rattle.results.specs.Listing.{ruleInForce, firstLine, wordOf, programLine, orderEntry, orderLine, cellLine, listingWith, orderRoom, listing}
+use Rattle.results.specs.Listing.{most, mostProgram, mostOrder, mostListing}
 
 -- the words of a list have 32 bits, as those of a slice of u32 do
 pub record Narrow (xs : List ℕ) : Type 0 where
@@ -66,10 +68,6 @@ module _ (image t a : List ℕ) where
       check-small _ (listRefusal image t a list) _
       (check-small _ (endedRefusal image t a) _ ended-small (check-small (leb (countOf image) (length list)) _ _ (omega arith) (omega arith)))
       (check-small (orderExists (length t) (countOf image) a) _ _ (omega arith) (omega arith))
-
-pub refused-short : (r : Refusal) → Small r → length (refusedLine r) ≤ mostRefused
-unfolding refusedLine
-refused-short r h = filled-short (ascii "refused #\n") (r .number ∷ []) (h, tt)
 
 -- ---- each line
 

@@ -4,13 +4,8 @@ use mathlib.Core.List.{List}
 use Prim.Native.Nat.{ℕ}
 use denote.Ref.{now}
 use Rattle.base.specs.Unique.{Unique}
-use Rattle.results.proofs.put_refused.Kinds as put-refused-kinds
-use Rattle.results.proofs.put_refused.Reads as put-refused
 use Rattle.results.proofs.put_listing.Kinds as put-listing-kinds
 use Rattle.results.proofs.put_listing.Reads as put-listing
-
-pub put-refused-unique : Unique {A = ℕ × List ℕ} 1 put-refused-kinds.ps put-refused-kinds.r (λ κs x s. (x, now (s .0))) put-refused.Post
-put-refused-unique κs a x y s t p q = cc
 
 pub put-listing-unique : Unique {A = ℕ × List ℕ} 4 put-listing-kinds.ps put-listing-kinds.r (λ κs x s. (x, now (s .0))) put-listing.Post
 put-listing-unique κs a x y s t p q = cc

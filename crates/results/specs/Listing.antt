@@ -7,17 +7,13 @@ use lib.Dec.{eqb}
 use lib.ListN.{length, getD, replicate}
 use Rattle.text.specs.Ascii.{ascii}
 use Rattle.text.specs.Filled.{filled, texts}
-use Rattle.image.specs.declared.Refusal.{Refusal}
 use Rattle.image.specs.Limits.{maxPrograms, maxCells}
 use Rattle.image.specs.Refusals.{unless}
 use Rattle.image.specs.Image.{countOf, secondRule}
 use Rattle.slot.specs.States.{waiting, gathered, rejected, faulted, committed}
 use Rattle.area.specs.Layout.{stateOf, detailOf}
 use Rattle.listing.specs.Listing.{orderOf, orderRefusal}
-
--- "another refusal prints its number so; that line is then the whole output"
-unfoldable pub refusedLine : Refusal → List ℕ
-refusedLine refusal = filled (ascii "refused #\n") (refusal .number ∷ [])
+use Rattle.refused.specs.Refused.{refusedLine}
 
 -- "Line 1: cells, programs, rule in force."
 abbrev pub ruleInForce : List ℕ → ℕ
@@ -72,9 +68,6 @@ listing image t a =
 
 abbrev pub most : (text : List ℕ) (numbers : ℕ) → ℕ
 most text numbers = length text + 10 * numbers
-
-abbrev pub mostRefused : ℕ
-mostRefused = most (ascii "refused #\n") 1
 
 abbrev pub mostProgram : ℕ
 mostProgram = most (ascii "# ") 1 + length (ascii "committed") + most (ascii " #\n") 1

@@ -8,7 +8,7 @@ ghost use Rattle.text.specs.Filled.{texts};
 ghost use Rattle.image.specs.Limits.{maxCells};
 ghost use Rattle.image.specs.Image.{countOf};
 ghost use Rattle.area.specs.Checks.{Measured, HasSlot};
-ghost use Rattle.results.specs.Listing.{refusedLine, ruleInForce, firstLine, wordOf, programLine, programLines};
+ghost use Rattle.results.specs.Listing.{ruleInForce, firstLine, wordOf, programLine, programLines};
 ghost use Rattle.results.specs.Listing.{orderEntry, orderLine, cellLine, cellLines, listingWith, listing, mostListing};
 
 // How many bytes a listing has at most: each text, and ten digits for each number in it, which has 32 bits.
@@ -32,14 +32,6 @@ pub fn room() -> [u8; BYTES]
     ensures { λ r. ⌜ mostListing ≡ length r ⌝ }
 {
     [0; BYTES]
-}
-
-// A refusal's line.
-pub fn put_refused(out: &mut [u8], at: usize, refusal: image::Refusal) -> usize
-    requires { ⌜ Room (now out) at (refusedLine refusal) ⌝ }
-    ensures { λ r. ⌜ Wrote (now (out .entry)) at (refusedLine refusal) (now (out .exit)) r ⌝ }
-{
-    text::put_filled(out, at, b"refused #\n", &[refusal.number])
 }
 
 // The rule in force.
@@ -184,7 +176,7 @@ pub fn put_listing(out: &mut [u8], at: usize, image: &[u8], table: &[u32], area:
 {
     let mut order = [0u32; image::Image::PROGRAMS];
     match listing::order(image, table, area, &mut order) {
-        listing::Listed::Refused(refusal) => put_refused(out, at, refusal),
+        listing::Listed::Refused(refusal) => refused::put_refused(out, at, refusal),
         listing::Listed::Count(count) => { put_with(out, at, &order[0..count], image, table, area) }
     }
 }

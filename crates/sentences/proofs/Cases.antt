@@ -6,7 +6,7 @@ use mathlib.Core.List.{[], _∷_, _++_}
 use Rattle.text.specs.Ascii.{ascii}
 use Rattle.causes.specs.declared.answers.Cause.{Cause}
 use Rattle.sentences.specs.Sentences.{free, turned, waw, raw, rawWithWar, again, rejected, loadFault, storeFault}
-use Rattle.sentences.specs.Sentences.{committedLine, wawLine, rawLine, rawWithWarLine, rejectedLine, loadFaultLine, storeFaultLine, refusedLine}
+use Rattle.sentences.specs.Sentences.{committedLine, wawLine, rawLine, rawWithWarLine, rejectedLine, loadFaultLine, storeFaultLine}
 use Rattle.sentences.specs.Opened.{opened}
 
 abbrev at : (cell program : ℕ) → Cause
@@ -21,7 +21,6 @@ script-lines : committedLine 63
     ∷ rejectedLine 12 7
     ∷ loadFaultLine 12 31
     ∷ storeFaultLine 12 31
-    ∷ refusedLine 15
     ∷ []
     ≡ ascii "63 committed\n"
     ∷ ascii "12 carried waw cell 255 program 3\n"
@@ -30,7 +29,6 @@ script-lines : committedLine 63
     ∷ ascii "12 rejected code 7\n"
     ∷ ascii "12 faulted load at 31\n"
     ∷ ascii "12 faulted store at 31\n"
-    ∷ ascii "refused 15\n"
     ∷ []
 unfolding opened
 script-lines = refl

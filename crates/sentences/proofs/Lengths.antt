@@ -8,7 +8,7 @@ use lib.ListN.{length, length-append}
 use Rattle.text.specs.Filled.{filled}
 use Rattle.text.proofs.Fillings.{Words, filled-short}
 use Rattle.causes.specs.declared.answers.Cause.{Cause}
-use Rattle.sentences.specs.Sentences.{committedLine, wawLine, rawLine, rawWithWarLine, rejectedLine, loadFaultLine, storeFaultLine, refusedLine}
+use Rattle.sentences.specs.Sentences.{committedLine, wawLine, rawLine, rawWithWarLine, rejectedLine, loadFaultLine, storeFaultLine}
 use Rattle.sentences.specs.Sentences.{free, turned, waw, raw, rawWithWar, moreBatches, again, rejected, loadFault, storeFault, longestReason, longestAgain}
 
 abbrev pub Small : ℕ → Type 0
@@ -32,10 +32,6 @@ module _ (s ns : List ℕ) (h : Words ns) where
   either-short : (t : List ℕ) (x : Bool) (m : ℕ) → length s + 10 * length ns ≤ m → length t + 10 * length ns ≤ m → length (filled (cond x s t) ns) ≤ m
   either-short t true m j k = omega (arith, filled-short s ns h, j)
   either-short t false m j k = omega (arith, filled-short t ns h, k)
-
-pub refused-short : (r : ℕ) → Small r → length (refusedLine r) ≤ longestReason
-unfolding refusedLine
-refused-short r h = one-short _ _ (omega arith) longestReason (omega arith)
 
 module _ (k : ℕ) (h : Small k) where
   pub free-short : length (free k) ≤ longestReason

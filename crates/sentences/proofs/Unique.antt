@@ -22,8 +22,6 @@ use Rattle.sentences.proofs.put_load_fault.Kinds as put-load-fault-kind
 use Rattle.sentences.proofs.put_load_fault.Reads as put-load-fault
 use Rattle.sentences.proofs.put_store_fault.Kinds as put-store-fault-kinds
 use Rattle.sentences.proofs.put_store_fault.Reads as put-store-fault
-use Rattle.sentences.proofs.put_refused.Kinds as put-refused-kinds
-use Rattle.sentences.proofs.put_refused.Reads as put-refused
 
 pub put-free-unique : Unique {A = ℕ × List ℕ} 1 put-free-kinds.ps put-free-kinds.r (λ κs x s. (x, now (s .0))) put-free.Post
 put-free-unique κs a x y s t p q = cc
@@ -51,6 +49,3 @@ put-load-fault-unique κs a x y s t p q = cc
 
 pub put-store-fault-unique : Unique {A = ℕ × List ℕ} 1 put-store-fault-kinds.ps put-store-fault-kinds.r (λ κs x s. (x, now (s .0))) put-store-fault.Post
 put-store-fault-unique κs a x y s t p q = cc
-
-pub put-refused-unique : Unique {A = ℕ × List ℕ} 1 put-refused-kinds.ps put-refused-kinds.r (λ κs x s. (x, now (s .0))) put-refused.Post
-put-refused-unique κs a x y s t p q = cc

@@ -32,10 +32,6 @@ loadFaultLine number place = filled (ascii "# faulted load at #\n") (number ∷ 
 unfoldable pub storeFaultLine : (number place : ℕ) → List ℕ
 storeFaultLine number place = filled (ascii "# faulted store at #\n") (number ∷ place ∷ [])
 
--- where the library refuses an answer, its line is all that is said
-unfoldable pub refusedLine : (refusal : ℕ) → List ℕ
-refusedLine refusal = filled (ascii "refused #\n") (refusal ∷ [])
-
 -- ---- a program that has committed, with the words behind its line
 
 -- without RAW

@@ -3,7 +3,7 @@
 ghost use mathlib.Core.List.{_++_};
 ghost use Rattle.text.specs.Filled.{filled};
 ghost use Rattle.text.specs.Writing.{Wrote, Room};
-ghost use Rattle.sentences.specs.Sentences.{free, turned, waw, raw, rawWithWar, moreBatches, again, rejected, loadFault, storeFault, refusedLine};
+ghost use Rattle.sentences.specs.Sentences.{free, turned, waw, raw, rawWithWar, moreBatches, again, rejected, loadFault, storeFault};
 
 // The most bytes of what is said of one program, where each number has at most 10 digits: the line and the words of reason 3, and behind them what comes of
 // the program.
@@ -193,12 +193,4 @@ pub fn put_store_fault(out: &mut [u8], at: usize, number: u32, place: u32, last:
           It stores nothing, reserves nothing and is not carried.\n",
         &[place, last],
     )
-}
-
-// Where the library refuses an answer, the refusal's line is all that is said.
-pub fn put_refused(out: &mut [u8], at: usize, refusal: image::Refusal) -> usize
-    requires { ⌜ Room (now out) at (refusedLine (refusal .number)) ⌝ }
-    ensures { λ r. ⌜ Wrote (now (out .entry)) at (refusedLine (refusal .number)) (now (out .exit)) r ⌝ }
-{
-    text::put_filled(out, at, b"refused #\n", &[refusal.number])
 }

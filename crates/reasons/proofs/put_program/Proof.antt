@@ -8,7 +8,8 @@ use borrow.Author.Needs.{needs}
 use denote.Ref.{now}
 use Rattle.image.specs.Limits.{maxPrograms}
 use Rattle.image.specs.Refusals as refusal
-use Rattle.sentences.specs.Sentences.{rejected, refusedLine}
+use Rattle.sentences.specs.Sentences.{rejected}
+use Rattle.refused.specs.Refused.{refusedLine}
 use Rattle.reasons.specs.Reasons.{committedText, carriedText, faultedText, programText}
 use Rattle.reasons.proofs.Pages.{place-low, says-rejected, says-faulted, says-committed, says-carried, says-not-ended}
 use Rattle.reasons.proofs.put_program.Statement.{statement}
@@ -91,7 +92,7 @@ put-carried-requires c κs =
 returns-4 : tie.Need-returns-4
 returns-4 c = let p = c .before .before in rw (is-carried (p .before)) (p .put-carried .ensures)
 
-is-not-ended : (c : tie.Else4) → said (detail-of (c .before .before .before)) ≡ refusedLine (refusal.state .number)
+is-not-ended : (c : tie.Else4) → said (detail-of (c .before .before .before)) ≡ refusedLine refusal.state
 is-not-ended c =
     let e = c .before .before in
     let f = e .before .before in
