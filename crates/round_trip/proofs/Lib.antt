@@ -5,3 +5,4 @@ pub mod Places
 pub mod Programs
 pub mod RoundTrip
 pub mod Undoing
+pub mod Refusing
