@@ -34,11 +34,11 @@
  * changes the area; but boards with tables and areas of their own can share one image.
  *
  * What it needs. The archive is x86-64 code today, for the System V calling convention. From
- * outside it needs one function, memset. The deepest stack of each call in bytes, from the caller's
- * frame down, as bench/run measures it on x86-64:
+ * outside it needs two functions, memcpy and memset. The deepest stack of each call in bytes, from
+ * the caller's frame down, as bench/run measures it on x86-64:
  *
  *     program   program_refusal   open   gather   settle   why   order   next_image   image_of   sheet_of
- *         120               120    136      760      200   200     968          216          0          0
+ *         120               120    136      760      200   200     968          216        336        256
  *
  * Refusals. Every call may be lent anything: it checks first, in the order of the numbers below
  * (the next image: 1 to 7, 9, 21 to 24, 11, 10; the image of a sheet: 51, 2, 3, 4, 10), and the
@@ -252,7 +252,8 @@ typedef struct {
 
 /*
  * What the two calls of sheets return: the length in bytes of what was written. Refusal 51 has the
- * number of the line, from 1, that its place does not allow; line is 0 for everything else.
+ * number of the line, from 1, that its place does not allow (4294967295 where it is larger); line
+ * is 0 for everything else.
  */
 typedef struct {
     uint32_t refusal, length, line;

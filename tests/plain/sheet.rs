@@ -34,7 +34,7 @@ impl Text {
     }
 
     fn not_allowed(line: usize) -> Text {
-        Text { refusal: refusal::LINE, length: 0, line: line as u32 }
+        Text { refusal: refusal::LINE, length: 0, line: u32::try_from(line).unwrap_or(u32::MAX) }
     }
 }
 
