@@ -1,24 +1,25 @@
 -- Laws of going through a sheet, line by line. Assumes nothing.
 use mathlib.Core.Path.{_≡_, refl, sym, ap, _∙_}
 use mathlib.Core.Logic.{_⊎_, inl, inr}
-use mathlib.Core.Bool.{true, false, cond}
+use mathlib.Core.Bool.{Bool, true, false, cond}
 use mathlib.Core.List.{List, [], _∷_, map}
 use Prim.Native.Nat.{ℕ, zero, suc, zero-le, _+_, _-_, _≤_, _<_}
 use native.Mathlib.Omega.{arith}
 use native.Mathlib.Numerals.{add-one}
-use lib.Dec.{leb, ltb}
+use lib.Dec.{eqb, leb, ltb}
 use lib.ListN.{length, drop}
-use borrow.Author.Tests.{le-leb, lt-leb, ltb-true, ltb-false}
+use borrow.Author.Tests.{le-leb, lt-leb, ltb-true, ltb-false, eq-eqb, ne-eqb, eqb-true}
 use Rattle.base.proofs.Bools.{known}
 use Rattle.base.specs.Words.{words}
 use Rattle.base.proofs.Parts.{words-length}
 use Rattle.sheet.specs.declared.Line.{Line}
 use Rattle.sheet.specs.declared.Line.the-variants as line
 use Rattle.sheet.specs.Split.{split, Ends}
+use Rattle.sheet.specs.Opened.{opened}
 use Rattle.sheet.specs.Sheet.{newline, lineOf, linesOf, allowed, ended, badFrom}
 use Rattle.sheet.proofs.Parts.{split-some}
 use Rattle.from_sheet.specs.declared.counting.Sizes.{Sizes}
-use Rattle.from_sheet.specs.Passes.{linesFrom, counted, tally, Small}
+use Rattle.from_sheet.specs.Passes.{linesFrom, counted, tally, Small, lastBad}
 
 -- the line that begins at a place and ends at another
 abbrev pub lineAt : List ℕ → (at end : ℕ) → Line
@@ -47,6 +48,10 @@ lines-next sheet at end e = rw (le-leb at (length sheet) (omega (arith, e .from,
     go (inl f) = rw (e .last f, lt-leb (end + 1) (length sheet) (omega (arith, f)))
     go (inr l) = rw (e .more l, le-leb (end + 1) (length sheet) (omega arith))
 
+pub empty-line : lineOf [] ≡ line.Other
+unfolding opened
+empty-line = refl
+
 -- ---- the first bad line
 
 bad-some : (place : ℕ) (text : List ℕ) (parts : List (List ℕ)) {next : List ℕ} {more : List (List ℕ)} → parts ≡ next ∷ more
@@ -70,33 +75,36 @@ module _ (sheet : List ℕ) (at end place : ℕ) (e : Ends newline sheet at end)
   long : length (words at (end - at) sheet) ≡ end - at
   long = words-length at (end - at) sheet (omega (arith, e .from, e .within))
 
-  pub none-before : end ≡ length sheet → place ≡ 0 → 1 ≡ badFrom place (split newline (drop at sheet))
-  unfolding ended
-  none-before l z = sym (bad-last l ∙ rw z)
-
-  pub text-behind : end ≡ length sheet → (place ≡ 0 → ⊥) → at < end → place + 1 ≡ badFrom place (split newline (drop at sheet))
-  unfolding ended
-  text-behind l z h = sym (bad-last l ∙ go place (words at (end - at) sheet) z long)
+  pub last-is : end ≡ length sheet → lastBad place (end - at) ≡ badFrom place (split newline (drop at sheet))
+  unfolding ended lastBad
+  last-is l = sym (bad-last l ∙ go place (words at (end - at) sheet) long)
     where
-      go : (p : ℕ) (rest : List ℕ) → (p ≡ 0 → ⊥) → length rest ≡ end - at → cond (ended p rest) 0 (suc p) ≡ p + 1
-      go zero rest z f = absurd (z refl)
-      go (suc p) [] z f = absurd (omega arith)
-      go (suc p) (x ∷ rest) z f = omega arith
+      go : (p : ℕ) (rest : List ℕ) → length rest ≡ end - at → cond (ended p rest) 0 (suc p) ≡ cond (eqb p 0) 1 (cond (eqb (end - at) 0) 0 (p + 1))
+      go zero rest e = refl
+      go (suc p) [] e = rw (ne-eqb (suc p) 0 (λ z. omega arith), eq-eqb (end - at) 0 (sym e))
+      go (suc p) (x ∷ rest) e = rw (ne-eqb (suc p) 0 (λ z. omega arith), ne-eqb (end - at) 0 (λ z. omega arith)) (omega arith)
 
-  pub well-ended : end ≡ length sheet → (place ≡ 0 → ⊥) → end ≤ at → 0 ≡ badFrom place (split newline (drop at sheet))
-  unfolding ended
-  well-ended l z h = sym (bad-last l ∙ go place (words at (end - at) sheet) z long)
-    where
-      go : (p : ℕ) (rest : List ℕ) → (p ≡ 0 → ⊥) → length rest ≡ end - at → cond (ended p rest) 0 (suc p) ≡ 0
-      go zero rest z f = absurd (z refl)
-      go (suc p) [] z f = refl
-      go (suc p) (x ∷ rest) z f = absurd (omega (arith, e .from))
+  -- where nothing stands behind it, the last part is no line that counts
+  pub nothing-behind : end ≡ length sheet → end ≤ at → linesFrom at sheet ≡ line.Other ∷ []
+  unfolding words
+  nothing-behind l h =
+      let z : end - at ≡ 0 = omega arith in
+      lines-next sheet at end e ∙ rw (z, empty-line, lines-none sheet (end + 1) (omega arith))
+
+pub last-good : (place rest : ℕ) → lastBad place rest ≡ 0 → rest ≡ 0
+unfolding lastBad
+last-good place rest h = go (eqb place 0) (eqb rest 0) refl h
+  where
+    go : (a b : Bool) → eqb rest 0 ≡ b → cond a 1 (cond b 0 (place + 1)) ≡ 0 → rest ≡ 0
+    go true b e k = absurd (omega arith)
+    go false true e k = eqb-true rest 0 e
+    go false false e k = absurd (omega arith)
 
 -- ---- sizes
 
-pub tally-none : (s : Sizes) → tally s [] ≡ s
-unfolding tally
-tally-none s = refl
+pub tally-other : (s : Sizes) → tally s (line.Other ∷ []) ≡ s
+unfolding tally counted
+tally-other s = refl
 
 pub tally-next : (s : Sizes) (l : Line) (ls : List Line) → tally s (l ∷ ls) ≡ tally (counted s l) ls
 unfolding tally

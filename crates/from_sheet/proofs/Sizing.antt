@@ -15,7 +15,7 @@ use Rattle.sheet.specs.declared.Line.{Line}
 use Rattle.sheet.specs.declared.Line.the-variants as line
 use Rattle.sheet.specs.Split.{split}
 use Rattle.sheet.specs.Sheet.{newline, lineOf, linesOf, allowed, ended, badFrom, badLine, bytesOf, leading, programs}
-use Rattle.sheet.specs.Opened.{opened}
+use Rattle.from_sheet.proofs.Passing.{empty-line}
 use Rattle.from_sheet.specs.declared.counting.Sizes.{Sizes}
 use Rattle.from_sheet.specs.FromSheet.{all, shortPrograms}
 use Rattle.from_sheet.specs.Passes.{counted, tally, bodyOf, bodies, stillShort}
@@ -117,10 +117,6 @@ program-second line.Other ls h = clash h refl
 good-first : (place : ℕ) (b : Bool) (rest : ℕ) → cond b rest (suc place) ≡ 0 → (b ≡ true) × (rest ≡ 0)
 good-first place true rest h = (refl, h)
 good-first place false rest h = absurd (omega arith)
-
-empty-line : lineOf [] ≡ line.Other
-unfolding opened
-empty-line = refl
 
 second-leads : (parts : List (List ℕ)) → badFrom 1 parts ≡ 0 → leading (map lineOf parts) ≡ []
 unfolding badFrom ended leading

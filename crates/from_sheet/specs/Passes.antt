@@ -3,7 +3,7 @@ use Prim.Native.Nat.{ℕ, _+_, _≤_, _<_, max}
 use mathlib.Core.Path.{_≡_}
 use mathlib.Core.Bool.{Bool, cond, _&&_}
 use mathlib.Core.List.{List, [], _∷_, _++_, map}
-use lib.Dec.{leb}
+use lib.Dec.{eqb, leb}
 use lib.ListN.{length, take, drop}
 use Rattle.text.specs.Writing.{Wrote, Room}
 use Rattle.image.specs.Limits.{maxPrograms, maxProgramBytes, maxBytes}
@@ -13,9 +13,10 @@ use Rattle.writer.specs.Joined.{number}
 use Rattle.sheet.specs.declared.Line.{Line}
 use Rattle.sheet.specs.declared.Line.the-variants as line
 use Rattle.sheet.specs.Split.{split}
-use Rattle.sheet.specs.Sheet.{newline, lineOf, bytesOf, leading, programs}
+use Rattle.sheet.specs.Sheet.{newline, lineOf, badLine, bytesOf, leading, programs}
 use Rattle.from_sheet.specs.declared.counting.Found.{Found}
 use Rattle.from_sheet.specs.declared.counting.Sizes.{Sizes}
+use Rattle.from_sheet.specs.declared.counting.Survey.{Survey}
 use Rattle.from_sheet.specs.declared.checking.Reading.{Reading}
 use Rattle.from_sheet.specs.FromSheet.{imageOfSheet, shortPrograms, goodPrograms}
 
@@ -50,6 +51,15 @@ pub record Small (s : Sizes) (most : ℕ) : Type 0 where
   pub programs-few : s .programs ≤ most
   pub instructions-few : s .instructions ≤ most
   pub current-few : s .current ≤ most
+
+-- the last line's number where something stands behind the last newline, and that of a first line that is missing; otherwise 0
+unfoldable pub lastBad : (place rest : ℕ) → ℕ
+lastBad place rest = cond (eqb place 0) 1 (cond (eqb rest 0) 0 (place + 1))
+
+-- what the first pass finds
+pub record Surveys (sheet : List ℕ) (s : Survey) : Type 0 where
+  pub bad-is : s .bad ≡ badLine sheet
+  pub sizes-are : s .bad ≡ 0 → s .sizes ≡ tally nothing (linesFrom 0 sheet)
 
 -- these are a sheet's, in which every line is allowed: nothing stands before its first program
 pub record Sized (sheet : List ℕ) (s : Sizes) : Type 0 where

@@ -1,9 +1,9 @@
-// The first passes over a sheet: its first bad line, and its sizes.
+// The first pass over a sheet: its first bad line, and its sizes.
 ghost use mathlib.Core.Path.{_≡_};
 ghost use Prim.Native.Nat.{_≤_, _<_, _^_, max};
 ghost use lib.ListN.{length};
-ghost use Rattle.sheet.specs.Sheet.{allowed, badLine};
-ghost use Rattle.from_sheet.specs.Passes.{counted, tally, nothing, linesFrom, Finds, Small};
+ghost use Rattle.sheet.specs.Sheet.{allowed};
+ghost use Rattle.from_sheet.specs.Passes.{counted, lastBad, Finds, Small, Surveys};
 use crate::NEWLINE;
 
 // How many programs a sheet has, how many instructions, how many in the program that is being read, and how many in the longest.
@@ -26,29 +26,15 @@ fn allowed(place: usize, line: sheet::Line) -> bool
     }
 }
 
-// The number of the first line that its place does not allow, from 1, or 0.
-pub fn bad_line(sheet: &[u8]) -> usize
-    ensures { λ r. ⌜ r ≡ badLine (now (sheet .entry)) ⌝ }
+// The number of the last line, where something stands behind the last newline, and of a first line that is missing; otherwise 0.
+fn last_bad(place: usize, rest: usize) -> usize
+    requires { ⌜ place < 2 ^ 63 ⌝ }
+    ensures { λ r. ⌜ r ≡ lastBad place rest ⌝ }
 {
-    let mut at = 0;
-    let mut place: usize = 0;
-    let mut end = sheet::part_end(sheet, 0, NEWLINE);
-    while end < sheet.len() {
-        let line = sheet::line_of(&sheet[at..end]);
-        if !allowed(place, line) {
-            return place + 1;
-        }
-        at = end + 1;
-        place += 1;
-        end = sheet::part_end(sheet, at, NEWLINE);
-    }
     if place == 0 {
         return 1;
     }
-    if at < end {
-        return place + 1;
-    }
-    0
+    if rest == 0 { 0 } else { place + 1 }
 }
 
 // A line, and where the next one begins.
@@ -98,9 +84,15 @@ fn larger(a: usize, b: usize) -> usize
     if a < b { b } else { a }
 }
 
-// The sizes of a sheet.
-pub fn sizes_of(sheet: &[u8]) -> Sizes
-    ensures { λ r. ⌜ r ≡ tally nothing (linesFrom 0 (now (sheet .entry))) ⌝ }
+// What the first pass finds: the number of the first line that its place does not allow, from 1, or 0; and where that is 0, the sizes.
+pub struct Survey {
+    pub bad: usize,
+    pub sizes: Sizes,
+}
+
+// Goes through a sheet until a line is not allowed.
+pub fn survey_of(sheet: &[u8]) -> Survey
+    ensures { λ r. ⌜ Surveys (now (sheet .entry)) r ⌝ }
 {
     let mut sizes = Sizes {
         programs: 0,
@@ -109,11 +101,23 @@ pub fn sizes_of(sheet: &[u8]) -> Sizes
         longest: 0,
     };
     let mut at = 0;
-    while at <= sheet.len() {
-        let found = next_line(sheet, at);
-        let line = found.line;
+    let mut place: usize = 0;
+    let mut end = sheet::part_end(sheet, 0, NEWLINE);
+    while end < sheet.len() {
+        let line = sheet::line_of(&sheet[at..end]);
+        if !allowed(place, line) {
+            return Survey {
+                bad: place + 1,
+                sizes,
+            };
+        }
         sizes = counted(sizes, line);
-        at = found.next;
+        at = end + 1;
+        place += 1;
+        end = sheet::part_end(sheet, at, NEWLINE);
     }
-    sizes
+    Survey {
+        bad: last_bad(place, end - at),
+        sizes,
+    }
 }

@@ -41,11 +41,11 @@ fn image_length(sheet: &[u8], sizes: counting::Sizes) -> usize
 pub fn image_of(sheet: &[u8], out: &mut [u8]) -> sheet::Written
     ensures { λ r. ⌜ ImageOfSays (now (sheet .entry)) (now (out .entry)) r (now (out .exit)) ⌝ }
 {
-    let bad = counting::bad_line(sheet);
-    if bad != 0 {
-        return sheet::Written::BadLine(bad);
+    let found = counting::survey_of(sheet);
+    if found.bad != 0 {
+        return sheet::Written::BadLine(found.bad);
     }
-    let sizes = counting::sizes_of(sheet);
+    let sizes = found.sizes;
     let refused = programs_refusal(sheet, sizes);
     if refused.number != 0 {
         return sheet::Written::Refused(refused);

@@ -17,24 +17,24 @@ use Rattle.from_sheet.proofs.image_of.Tie as tie
 
 -- from each check that has passed to the one before it, and to the start
 abbrev start-of : tie.Else1 → tie.Start
-start-of c = c .before .before .before .before
+start-of c = c .before .before .before .before .before
 
-abbrev lines-of : tie.After-sizes-of → tie.Else1
+abbrev lines-of : tie.After-sizes → tie.Else1
 lines-of c = c .before
 
-abbrev sizes-at : tie.Else2 → tie.After-sizes-of
+abbrev sizes-at : tie.Else2 → tie.After-sizes
 sizes-at c = c .before .before .before
 
 abbrev programs-at : tie.Else3 → tie.Else2
 programs-at c = c .before .before
 
 all-allowed : (c : tie.Else1) → badLine (now (start-of c .args .sheet)) ≡ 0
-all-allowed c = sym (c .before .bad-line .ensures) ∙ c .if1 .left
+all-allowed c = sym (c .before .before .survey-of .ensures .bad-is) ∙ c .if1 .left
 
-sized : (c : tie.After-sizes-of) → Sized (now (start-of (lines-of c) .args .sheet)) (c .sizes-of .result)
+sized : (c : tie.After-sizes) → Sized (now (start-of (lines-of c) .args .sheet)) (c .before .before .before .survey-of .result .sizes)
 sized c =
     let sheet = now (start-of (lines-of c) .args .sheet) in
-    record { sizes-are = c .sizes-of .ensures; nothing-leads = ap leading (lines-all sheet) ∙ nothing-leads sheet (all-allowed (lines-of c)) }
+    record { sizes-are = c .before .before .before .survey-of .ensures .sizes-are (c .before .if1 .left); nothing-leads = ap leading (lines-all sheet) ∙ nothing-leads sheet (all-allowed (lines-of c)) }
 
 passed : (c : tie.Else2) → programsRefusal (programsOf (now (start-of (lines-of (sizes-at c)) .args .sheet))) .number ≡ 0
 passed c = sym (number-of (c .before .before .programs-refusal .ensures)) ∙ c .if2 .left
@@ -43,7 +43,7 @@ has-room : (c : tie.Else3) → let s = start-of (lines-of (sizes-at (programs-at
 has-room c = omega (arith, c .before .image-length .ensures)
 
 returns : tie.Need-returns
-returns c = bad-says _ _ (c .before .bad-line .ensures) (c .if1 .taken)
+returns c = bad-says _ _ (c .before .before .survey-of .ensures .bad-is) (c .if1 .taken)
 
 returns-2 : tie.Need-returns-2
 returns-2 c =
@@ -74,7 +74,6 @@ image-of-spec =
     (tie.spec
     (λ c κs. search needs)
     returns
-    (λ c κs. search needs)
     (λ c κs. sized c)
     returns-2
     (λ c κs. (sized (sizes-at c), passed c))
