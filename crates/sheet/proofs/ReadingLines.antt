@@ -10,7 +10,7 @@ use lib.ListN.{length, drop}
 use Rattle.base.specs.Words.{words}
 use native.Mathlib.Numerals.{add-one}
 use borrow.Author.Tests.{leb-true, lt-ltb, le-ltb, ltb-true, ltb-false}
-use Rattle.base.proofs.Bools.{known, clash}
+use Rattle.base.proofs.Bools.{known, clash, and-false}
 use Rattle.base.proofs.Numbers.{below}
 use Rattle.base.proofs.Leasts.{is-least}
 use Rattle.text.specs.declared.Numeral.{Numeral}
@@ -83,33 +83,24 @@ unfolding ruleLine
 rule-is word r e h = let u = up-to-is largestRule r h in rw (e, u .0, u .1)
 
 module _ (word a b c : List ℕ) where
-  -- all of four tests hold, or the line is another
-  pub instruction-other : (operations ≤ operationOf word) ⊎ ((isUpTo largestByte a ≡ false) ⊎ ((isUpTo largestByte b ≡ false) ⊎ (isUpTo largestByte c ≡ false)))
-      → line.Other ≡ instructionLine word a b c
+  -- one of four tests fails
+  pub no-operation : operations ≤ operationOf word → line.Other ≡ instructionLine word a b c
   unfolding instructionLine
-  instruction-other h = rw (none h)
-    where
-      four : (w x y z : Bool) → (w ≡ false) ⊎ ((x ≡ false) ⊎ ((y ≡ false) ⊎ (z ≡ false))) → w && x && y && z ≡ false
-      four w x y z (inl e) = rw e
-      four true x y z (inr (inl e)) = rw e
-      four false x y z (inr (inl e)) = refl
-      four true true y z (inr (inr (inl e))) = rw e
-      four true false y z (inr (inr (inl e))) = refl
-      four false x y z (inr (inr (inl e))) = refl
-      four true true true z (inr (inr (inr e))) = e
-      four true true false z (inr (inr (inr e))) = refl
-      four true false y z (inr (inr (inr e))) = refl
-      four false x y z (inr (inr (inr e))) = refl
+  no-operation l = rw (le-ltb (operationOf word) operations l)
 
-      first-of : (operations ≤ operationOf word) ⊎ ((isUpTo largestByte a ≡ false) ⊎ ((isUpTo largestByte b ≡ false) ⊎ (isUpTo largestByte c ≡ false)))
-          → (ltb (operationOf word) operations ≡ false) ⊎ ((isUpTo largestByte a ≡ false) ⊎ ((isUpTo largestByte b ≡ false) ⊎ (isUpTo largestByte c ≡ false)))
-      first-of (inl l) = inl (le-ltb (operationOf word) operations l)
-      first-of (inr e) = inr e
+  pub no-first : isUpTo largestByte a ≡ false → line.Other ≡ instructionLine word a b c
+  unfolding instructionLine
+  no-first e = rw (and-false (ltb (operationOf word) operations) (isUpTo largestByte a) e)
 
-      none : (operations ≤ operationOf word) ⊎ ((isUpTo largestByte a ≡ false) ⊎ ((isUpTo largestByte b ≡ false) ⊎ (isUpTo largestByte c ≡ false)))
-          → ltb (operationOf word) operations && isUpTo largestByte a && isUpTo largestByte b && isUpTo largestByte c ≡ false
-      none h = four _ _ _ _ (first-of h)
+  pub no-second : isUpTo largestByte b ≡ false → line.Other ≡ instructionLine word a b c
+  unfolding instructionLine
+  no-second e = rw (and-false (ltb (operationOf word) operations && isUpTo largestByte a) (isUpTo largestByte b) e)
 
+  pub no-third : isUpTo largestByte c ≡ false → line.Other ≡ instructionLine word a b c
+  unfolding instructionLine
+  no-third e = rw (and-false (ltb (operationOf word) operations && isUpTo largestByte a && isUpTo largestByte b) (isUpTo largestByte c) e)
+
+  -- none does
   pub instruction-is : operationOf word < operations → upTo largestByte a ≤ largestByte → upTo largestByte b ≤ largestByte → upTo largestByte c ≤ largestByte
       → line.Instruction (record { op = operationOf word; a = upTo largestByte a; b = upTo largestByte b; c = upTo largestByte c }) ≡ instructionLine word a b c
   unfolding instructionLine

@@ -3,3 +3,4 @@ pub mod Decimals
 pub mod Reading
 pub mod Fillings
 pub mod Cases
+pub mod Unique

@@ -1,7 +1,6 @@
 -- The loop's invariant: every line before the place is allowed, the part that begins there ends at `end`, and the sizes so far, with the lines from there on,
 -- are the sheet's. The measure is what is left of it. Assumes nothing.
 use mathlib.Core.Path.{_≡_, refl, sym, ap, _∙_}
-use mathlib.Core.Bool.{true, false}
 use mathlib.Core.List.{List}
 use Prim.Native.Nat.{ℕ, _≤_, _+_, _-_}
 use native.Mathlib.Omega.{arith}
@@ -13,7 +12,7 @@ use Rattle.base.specs.Words.{words}
 use Rattle.sheet.specs.Split.{split, Ends}
 use Rattle.sheet.specs.Sheet.{newline, badFrom, badLine}
 use Rattle.from_sheet.specs.declared.counting.Sizes.{Sizes}
-use Rattle.from_sheet.specs.Passes.{linesFrom, tally, nothing, Small, lastBad}
+use Rattle.from_sheet.specs.Passes.{linesFrom, tally, nothing, Small}
 use Rattle.from_sheet.proofs.Passing.{lines-next, bad-next, last-is, last-good, nothing-behind, tally-other, tally-next, small-next}
 use Rattle.from_sheet.proofs.counting.survey_of.Statement.{statement}
 use Rattle.from_sheet.proofs.counting.survey_of.Tie as tie

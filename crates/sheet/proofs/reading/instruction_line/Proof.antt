@@ -1,23 +1,22 @@
 -- At each return the tests that led there say which line it is. Assumes nothing.
-use mathlib.Core.Logic.{inl, inr}
 use native.Mathlib.Omega.{arith}
 use borrow.Author.Needs.{needs}
 use Rattle.sheet.specs.Sheet.{largestByte}
-use Rattle.sheet.proofs.ReadingLines.{up-to-over, instruction-other, instruction-is}
+use Rattle.sheet.proofs.ReadingLines.{up-to-over, no-operation, no-first, no-second, no-third, instruction-is}
 use Rattle.sheet.proofs.reading.instruction_line.Statement.{statement}
 use Rattle.sheet.proofs.reading.instruction_line.Tie as tie
 
 returns : tie.Need-returns
-returns c = instruction-other _ _ _ _ (inl (omega (arith, c .before .operation-of .ensures)))
+returns c = no-operation _ _ _ _ (omega (arith, c .before .operation-of .ensures))
 
 returns-2 : tie.Need-returns-2
-returns-2 c = instruction-other _ _ _ _ (inr (inl (up-to-over largestByte _ (omega (arith, c .before .before .before .up-to .ensures .0)))))
+returns-2 c = no-first _ _ _ _ (up-to-over largestByte _ (omega (arith, c .before .before .before .up-to .ensures .0)))
 
 returns-3 : tie.Need-returns-3
-returns-3 c = instruction-other _ _ _ _ (inr (inr (inl (up-to-over largestByte _ (omega (arith, c .before .before .before .up-to2 .ensures .0))))))
+returns-3 c = no-second _ _ _ _ (up-to-over largestByte _ (omega (arith, c .before .before .before .up-to2 .ensures .0)))
 
 returns-4 : tie.Need-returns-4
-returns-4 c = instruction-other _ _ _ _ (inr (inr (inr (up-to-over largestByte _ (omega (arith, c .before .before .before .up-to3 .ensures .0))))))
+returns-4 c = no-third _ _ _ _ (up-to-over largestByte _ (omega (arith, c .before .before .before .up-to3 .ensures .0)))
 
 returns-5 : tie.Need-returns-5
 returns-5 c =

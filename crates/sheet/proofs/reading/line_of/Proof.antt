@@ -78,10 +78,10 @@ returns-5 c =
     let e = first-of f in
     let p = e .before in
     let q = l .before .part-end4 in
-    c .instruction-line .ensures
-    ∙ sym
+    rw
     (four-words (text-of p) (p .part-end .result) (p .part-end .ensures) (more-than-one e) (f .before .part-end2 .result) (f .before .part-end2 .ensures) (more-than-two f)
     (g .before .part-end3 .result) (g .before .part-end3 .ensures) (more-than-three g) (q .result) (q .ensures) (l .if4 .left))
+    (c .instruction-line .ensures)
 
 pub line-of-spec : {M : Type 1} → statement M
 line-of-spec =
