@@ -1,0 +1,33 @@
+-- What the programs `to_image` and `to_sheet` print, for every input: document 02, ask 1. Refusal 10 is none of theirs: their room is never too short.
+-- Assumes nothing.
+use Prim.Native.Nat.{ℕ, _≤_}
+use mathlib.Core.Path.{_≡_}
+use mathlib.Core.Bool.{cond}
+use mathlib.Core.List.{List, _++_}
+use lib.Dec.{eqb}
+use lib.ListN.{length, drop}
+use Rattle.image.specs.declared.Refusal.{Refusal}
+use Rattle.image.specs.Refusals.{unless}
+use Rattle.image.specs.Image.{refusalOf}
+use Rattle.sheet.specs.Sheet.{badLine}
+use Rattle.from_sheet.specs.FromSheet.{imageOfSheet, sheetRefusal}
+use Rattle.from_image.specs.FromImage.{sheetOfImage}
+use Rattle.refused.specs.Refused.{refusedLine, refusedAtLine}
+
+-- "from a sheet: 51 the first line that its place does not allow .. with its number from 1; 2 ..; 3 ..; 4": the line of a sheet's refusal
+unfoldable pub sheetRefused : (sheet : List ℕ) → Refusal → List ℕ
+sheetRefused sheet r = cond (eqb (badLine sheet) 0) (refusedLine r) (refusedAtLine r (badLine sheet))
+
+-- what `to_image` prints of a sheet: its image, or the refusal's line as the whole output
+unfoldable pub imagePage : (sheet : List ℕ) → List ℕ
+imagePage sheet = unless (sheetRefusal sheet) (sheetRefused sheet) (imageOfSheet sheet)
+
+-- "From an image: 1 to 4": what `to_sheet` prints of an image
+unfoldable pub sheetPage : (image : List ℕ) → List ℕ
+sheetPage image = unless (refusalOf image) refusedLine (sheetOfImage image)
+
+-- The contract of a call that makes a page: it stands at the front of what is lent, everything behind it is as it was, and its length is the answer.
+pub record PageSays (page out : List ℕ) (r : ℕ) (out′ : List ℕ) : Type 0 where
+  pub bytes : out′ ≡ page ++ drop (length page) out
+  pub answer : r ≡ length page
+  pub fits : r ≤ length out′
