@@ -4,6 +4,8 @@ use mathlib.Core.List.{List}
 use Prim.Native.Nat.{ℕ}
 use denote.Ref.{now}
 use Rattle.base.specs.Unique.{Unique}
+use Rattle.converted.proofs.input_room.Kinds as input-room-kinds
+use Rattle.converted.proofs.input_room.Reads as input-room
 use Rattle.converted.proofs.image_room.Kinds as image-room-kinds
 use Rattle.converted.proofs.image_room.Reads as image-room
 use Rattle.converted.proofs.sheet_room.Kinds as sheet-room-kinds
@@ -19,6 +21,9 @@ image-page-unique κs a x y s t p q = cc
 
 pub sheet-page-unique : Unique {A = ℕ × List ℕ} 2 sheet-page-kinds.ps sheet-page-kinds.r (λ κs x s. (x, now (s .1 .0))) sheet-page.Post
 sheet-page-unique κs a x y s t p q = cc
+
+pub input-room-unique : Unique 0 input-room-kinds.ps input-room-kinds.r (λ κs x s. x) input-room.Post
+input-room-unique κs a x y s t p q = p .1 ∙ sym (q .1)
 
 pub image-room-unique : Unique 0 image-room-kinds.ps image-room-kinds.r (λ κs x s. x) image-room.Post
 image-room-unique κs a x y s t p q = p .1 ∙ sym (q .1)

@@ -14,6 +14,10 @@ use Rattle.from_sheet.specs.FromSheet.{imageOfSheet, sheetRefusal}
 use Rattle.from_image.specs.FromImage.{sheetOfImage}
 use Rattle.refused.specs.Refused.{refusedLine, refusedAtLine}
 
+-- the longest input that the two programs take: 1 MiB
+abbrev pub longestInput : ℕ
+longestInput = 1048576
+
 -- "from a sheet: 51 the first line that its place does not allow .. with its number from 1; 2 ..; 3 ..; 4": the line of a sheet's refusal
 unfoldable pub sheetRefused : (sheet : List ℕ) → Refusal → List ℕ
 sheetRefused sheet r = cond (eqb (badLine sheet) 0) (refusedLine r) (refusedAtLine r (badLine sheet))

@@ -1,15 +1,22 @@
 // What the programs `to_image` and `to_sheet` print (document 02, ask 1): the image or the sheet, or the line of a refusal as the whole output.
 ghost use mathlib.Core.Path.{_≡_};
-ghost use Prim.Native.Nat.{_≤_};
+ghost use Prim.Native.Nat.{_+_, _≤_};
 ghost use lib.ListN.{length, replicate};
 ghost use Rattle.image.specs.Limits.{maxBytes};
 ghost use Rattle.from_image.specs.Longest.{longestSheet};
-ghost use Rattle.converted.specs.Converted.{imagePage, sheetPage, PageSays};
+ghost use Rattle.converted.specs.Converted.{longestInput, imagePage, sheetPage, PageSays};
 
 // The longest input that the two programs take, and what they say of a longer one.
 pub const LONGEST_INPUT: usize = 1048576;
 
 pub const TOO_LONG: [u8; 38] = *b"the input is longer than 1048576 bytes";
+
+// Room for the longest input and a byte more, by which a longer one is told.
+pub fn input_room() -> [u8; LONGEST_INPUT + 1]
+    ensures { λ r. ⌜ (longestInput + 1 ≡ length r) × (r ≡ replicate (longestInput + 1) 0) ⌝ }
+{
+    [0; LONGEST_INPUT + 1]
+}
 
 // Room for every image, and for every sheet of one.
 pub fn image_room() -> [u8; image::Image::BYTES]
