@@ -1,0 +1,44 @@
+-- Laws of the prefix: its numbers read back, and how long it is. Assumes nothing.
+use Prim.Native.Nat.{ℕ, zero, suc, _+_, _*_, _≤_, _<_}
+use mathlib.Core.Path.{_≡_, refl, _∙_}
+use mathlib.Core.List.{List, _++_}
+use native.Mathlib.Omega.{arith}
+use lib.ListN.{length, getD, length-append}
+use Rattle.text.specs.Filled.{texts}
+use Rattle.text.specs.Writing.{Wrote, Room}
+use Rattle.text.proofs.Writing.{pasted-front, wrote-both}
+use Rattle.prefix.specs.Prefix.{two, four, cellAt, prefix, prefixBytes, PrefixSays}
+
+-- the bytes of a number, read back low first
+pub two-back : (n : ℕ) → n < 65536 → getD (two n) 0 0 + 256 * getD (two n) 1 0 ≡ n
+two-back n h = omega arith
+
+pub four-back : (n : ℕ) → n < 4294967296
+    → getD (four n) 0 0 + 256 * getD (four n) 1 0 + 65536 * getD (four n) 2 0 + 16777216 * getD (four n) 3 0 ≡ n
+four-back n h = omega arith
+
+-- each cell has four bytes
+cells-long : (cells : List ℕ) (n : ℕ) → length (texts (cellAt cells) n) ≡ 4 * n
+unfolding texts cellAt
+cells-long cells zero = refl
+cells-long cells (suc n) = rw length-append (omega (arith, cells-long cells n))
+
+pub prefix-long : (cells : List ℕ) → length (prefix cells) ≡ prefixBytes (length cells)
+unfolding prefix
+prefix-long cells = rw length-append (omega (arith, cells-long cells (length cells)))
+
+module _ (cells out : List ℕ) (room : prefixBytes (length cells) ≤ length out) where
+  pub prefix-room : Room out 0 (two (length cells) ++ texts (cellAt cells) (length cells))
+  unfolding prefix
+  prefix-room = record { fits = omega (arith, prefix-long cells, room) }
+
+  pub prefix-says : {next r : ℕ} {out′ out″ : List ℕ} → Wrote out 0 (two (length cells)) out′ next
+      → Wrote out′ next (texts (cellAt cells) (length cells)) out″ r → PrefixSays cells out r out″
+  unfolding prefix
+  prefix-says h k =
+      let w = wrote-both _ _ prefix-room h k in
+      record {
+        bytes = w .bytes ∙ pasted-front out _;
+        answer = omega (arith, w .next);
+        fits = omega (arith, w .next, w .long, prefix-room .fits);
+      }
