@@ -1,16 +1,16 @@
 -- Laws of what the two programs print: what each answer of the call under it says of the page, and that a refusal's line has room. Assumes nothing.
-use Prim.Native.Nat.{ℕ, _+_, _≤_, _<_}
-use mathlib.Core.Path.{_≡_, refl, sym, ap, subst, _∙_}
+use Prim.Native.Nat.{ℕ, _≤_, _<_}
+use mathlib.Core.Path.{_≡_, refl, sym, subst, _∙_}
 use mathlib.Core.Logic.{_⊎_, inl, inr}
 use mathlib.Core.Bool.{Bool, true, false, cond}
 use mathlib.Core.List.{List, _++_}
 use native.Mathlib.Omega.{arith}
-use lib.Dec.{eqb, leb}
+use lib.Dec.{eqb}
 use lib.ListN.{length, getD, drop, length-append}
 use borrow.Author.Tests.{eqb-true, eqb-false, le-leb}
 use Rattle.base.proofs.Bools.{known}
-use Rattle.text.specs.Writing.{Wrote, Room}
-use Rattle.text.proofs.Writing.{pasted-front}
+use Rattle.text.proofs.Writing.{page-says}
+use Rattle.text.specs.Writing.{PageSays, Wrote, Room}
 use Rattle.image.specs.Limits.{maxBytes}
 use Rattle.image.specs.declared.Refusal.{Refusal}
 use Rattle.image.specs.Refusals as refusal
@@ -28,20 +28,11 @@ use Rattle.from_image.specs.Longest.{longestSheet}
 use Rattle.from_image.proofs.Longest.{sheet-short}
 use Rattle.refused.specs.Refused.{refusedLine, refusedAtLine}
 use Rattle.refused.proofs.Lines.{refused-short, refused-at-short}
-use Rattle.converted.specs.Converted.{sheetRefused, imagePage, sheetPage, PageSays}
-
--- what is written at the front of a room is a page
-pub page-says : {page out out′ : List ℕ} {r : ℕ} → Room out 0 page → Wrote out 0 page out′ r → PageSays page out r out′
-page-says {page} {out} room w =
-    record {
-      bytes = w .bytes ∙ pasted-front out page;
-      answer = omega (arith, w .next);
-      fits = omega (arith, w .next, w .long, room .fits);
-    }
+use Rattle.converted.specs.Converted.{sheetRefused, imagePage, sheetPage}
 
 -- also where a call before has left the room as it was
-left-says : {page out out′ out″ : List ℕ} {n : ℕ} → out′ ≡ out → Room out′ 0 page → Wrote out′ 0 page out″ n → PageSays page out n out″
-left-says {page} {out″ = out″} {n = n} e room w = subst (λ (o : List ℕ). PageSays page o n out″) e (page-says room w)
+left-says : {page out out′ out″ : List ℕ} {n : ℕ} → out′ ≡ out → Wrote out′ 0 page out″ n → PageSays page out n out″
+left-says {page} {out″ = out″} {n = n} e w = subst (λ (o : List ℕ). PageSays page o n out″) e (page-says w)
 
 -- ---- of a sheet
 
@@ -117,7 +108,7 @@ module _ (sheet : List ℕ) {out out′ : List ℕ} (room : maxBytes ≤ length 
 
   pub refusal-says : {r : Refusal} {out″ : List ℕ} {n : ℕ} → Tells sheet out (Refused r) out′ → Wrote out′ 0 (refusedLine r) out″ n
       → PageSays (imagePage sheet) out n out″
-  refusal-says t w = rw (t .0) (left-says (t .1) (refusal-room t) w)
+  refusal-says t w = rw (t .0) (left-says (t .1) w)
 
   module _ {line : ℕ} (wide : line < 18446744073709551616) where
     pub line-room : Tells sheet out (BadLine line) out′ → Room out′ 0 (refusedAtLine refusal.line line)
@@ -125,7 +116,7 @@ module _ (sheet : List ℕ) {out out′ : List ℕ} (room : maxBytes ≤ length 
 
     pub line-says : {out″ : List ℕ} {n : ℕ} → Tells sheet out (BadLine line) out′ → Wrote out′ 0 (refusedAtLine refusal.line line) out″ n
         → PageSays (imagePage sheet) out n out″
-    line-says t w = rw (t .0) (left-says (t .1) (line-room t) w)
+    line-says t w = rw (t .0) (left-says (t .1) w)
 
 -- ---- of an image
 
@@ -139,7 +130,7 @@ module _ (image out : List ℕ) (long : longestSheet ≤ length out) {r : Refusa
   unfolding sheetPage
   image-refused h w =
       let e : sheetPage image ≡ refusedLine r = sym (refused-as refusedLine (sheetOfImage image) says h) in
-      rw e (page-says image-refused-room w)
+      rw e (page-says w)
 
   -- its sheet has room, and is then all
   module _ (none : r .number ≡ 0) where
@@ -154,4 +145,4 @@ module _ (image out : List ℕ) (long : longestSheet ≤ length out) {r : Refusa
     unfolding sheetPage
     sheet-done bytes w =
         let e : sheetPage image ≡ sheetOfImage image = unless-done (refusalOf image) refusedLine (sheetOfImage image) image-good in
-        rw e (page-says (sheet-room bytes .1) w)
+        rw e (page-says w)

@@ -1,11 +1,9 @@
 -- What the programs `to_image` and `to_sheet` print, for every input: document 02, ask 1. Refusal 10 is none of theirs: their room is never too short.
 -- Assumes nothing.
-use Prim.Native.Nat.{ℕ, _≤_}
-use mathlib.Core.Path.{_≡_}
+use Prim.Native.Nat.{ℕ}
 use mathlib.Core.Bool.{cond}
-use mathlib.Core.List.{List, _++_}
+use mathlib.Core.List.{List}
 use lib.Dec.{eqb}
-use lib.ListN.{length, drop}
 use Rattle.image.specs.declared.Refusal.{Refusal}
 use Rattle.image.specs.Refusals.{unless}
 use Rattle.image.specs.Image.{refusalOf}
@@ -29,9 +27,3 @@ imagePage sheet = unless (sheetRefusal sheet) (sheetRefused sheet) (imageOfSheet
 -- "From an image: 1 to 4": what `to_sheet` prints of an image
 unfoldable pub sheetPage : (image : List ℕ) → List ℕ
 sheetPage image = unless (refusalOf image) refusedLine (sheetOfImage image)
-
--- The contract of a call that makes a page: it stands at the front of what is lent, everything behind it is as it was, and its length is the answer.
-pub record PageSays (page out : List ℕ) (r : ℕ) (out′ : List ℕ) : Type 0 where
-  pub bytes : out′ ≡ page ++ drop (length page) out
-  pub answer : r ≡ length page
-  pub fits : r ≤ length out′

@@ -4,7 +4,8 @@ ghost use Prim.Native.Nat.{_+_, _≤_};
 ghost use lib.ListN.{length, replicate};
 ghost use Rattle.image.specs.Limits.{maxBytes};
 ghost use Rattle.from_image.specs.Longest.{longestSheet};
-ghost use Rattle.converted.specs.Converted.{longestInput, imagePage, sheetPage, PageSays};
+ghost use Rattle.converted.specs.Converted.{longestInput, imagePage, sheetPage};
+ghost use Rattle.text.specs.Writing.{PageSays};
 
 // The longest input that the two programs take, and what they say of a longer one.
 pub const LONGEST_INPUT: usize = 1048576;

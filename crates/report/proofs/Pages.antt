@@ -3,10 +3,9 @@ use mathlib.Core.Path.{_≡_, refl, sym, ap, _∙_}
 use mathlib.Core.List.{List, _++_}
 use Prim.Native.Nat.{ℕ, _≤_, _<_}
 use native.Mathlib.Omega.{arith}
-use lib.ListN.{length, take, drop, length-append, length-drop}
+use lib.ListN.{length, take, length-append}
 use lib.Seq.{take-at}
-use Rattle.text.specs.Writing.{Wrote, Room}
-use Rattle.text.proofs.Writing.{pasted-front}
+use Rattle.text.specs.Writing.{Room}
 use Rattle.image.specs.declared.Refusal.{Refusal}
 use Rattle.image.specs.Refusals as refusal
 use Rattle.image.specs.Image.{countOf}
@@ -18,7 +17,7 @@ use Rattle.input.proofs.Prefixes.{Whole, cells-none, cells-good, cells-whole}
 use Rattle.refused.specs.Refused.{refusedLine, mostRefused}
 use Rattle.refused.proofs.Lines.{refused-short}
 use Rattle.results.proofs.Short.{Small, check-small, open-small}
-use Rattle.report.specs.Batch.{lent, workArea, tableOf, imageOf, inputRefusal, batchOf, pageOf, pageMost, PageSays}
+use Rattle.report.specs.Batch.{lent, workArea, tableOf, imageOf, inputRefusal, batchOf, pageOf, pageMost}
 use Rattle.report.specs.declared.Page.{Page}
 use Rattle.report.specs.declared.Page.the-variants.{Results, Reasons}
 use Rattle.report.specs.Runs.{Runs, Refuses, Settles}
@@ -61,16 +60,6 @@ module _ (input : List ℕ) {cells : ℕ} (e : cells ≡ cellsOf input) (some : 
         }
 
 -- ---- its page
-
--- a call that has written a page at the front; it has not written more than there is
-pub page-says : {page out out′ : List ℕ} {r : ℕ} → Wrote out 0 page out′ r → PageSays page out r out′
-page-says {page} {out} {out′} w =
-    let e : out′ ≡ page ++ drop (length page) out = w .bytes ∙ pasted-front out page in
-    record {
-      bytes = e;
-      answer = omega (arith, w .next);
-      fits = omega (arith, w .next, w .long, ap length e, length-append page (drop (length page) out), length-drop (length page) out);
-    }
 
 -- a refusal's line fits wherever a page does
 page-holds : (page : Page) → mostRefused ≤ pageMost page

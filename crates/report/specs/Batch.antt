@@ -1,6 +1,5 @@
 -- Document 01, "Bench sheet": what the program `batch` prints, for every input; and what `why` does (document 02, ask 3). Assumes nothing.
-use Prim.Native.Nat.{ℕ, zero, suc, _≤_}
-use mathlib.Core.Path.{_≡_}
+use Prim.Native.Nat.{ℕ, zero, suc}
 use mathlib.Core.List.{List}
 use lib.ListN.{length, replicate}
 use Rattle.image.specs.declared.Refusal.{Refusal}
@@ -12,7 +11,6 @@ use Rattle.area.specs.Checks.{openRefusal}
 use Rattle.steps.specs.Opening.{openArea}
 use Rattle.steps.specs.Gathering.{gatherArea}
 use Rattle.steps.specs.Settling.{settleTable, settleArea}
-use Rattle.listing.specs.Listing.{overwritten}
 use Rattle.input.specs.Prefix.{cellsNamed, tableIn, imageIn, prefixGood}
 use Rattle.results.specs.Listing.{listing, mostListing}
 use Rattle.refused.specs.Refused.{refusedLine}
@@ -92,9 +90,3 @@ batchPage = pageOf (pageText Results)
 
 abbrev pub reasonsPage : (input : List ℕ) → List ℕ
 reasonsPage = pageOf (pageText Reasons)
-
--- The contract of a call that makes a page: it stands at the front of what is lent, everything behind it is as it was, and its length is the answer.
-pub record PageSays (page out : List ℕ) (r : ℕ) (out′ : List ℕ) : Type 0 where
-  pub bytes : out′ ≡ overwritten page out
-  pub answer : r ≡ length page
-  pub fits : r ≤ length out′

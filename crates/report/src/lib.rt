@@ -3,7 +3,7 @@
 ghost use mathlib.Core.Path.{_≡_};
 ghost use Prim.Native.Nat.{_≤_, _<_};
 ghost use lib.ListN.{length};
-ghost use Rattle.text.specs.Writing.{Wrote};
+ghost use Rattle.text.specs.Writing.{Wrote, PageSays};
 ghost use Rattle.image.specs.Limits.{maxPrograms, maxCells};
 ghost use Rattle.image.specs.Image.{countOf};
 ghost use Rattle.area.specs.Layout.{areaWords};
@@ -11,7 +11,7 @@ ghost use Rattle.area.specs.Checks.{Measured};
 ghost use Rattle.input.specs.Prefix.{prefixBytes, tableIn};
 ghost use Rattle.results.specs.Listing.{listing, mostListing};
 ghost use Rattle.reasons.specs.Reasons.{reasonsText, longestPage};
-ghost use Rattle.report.specs.Batch.{lent, gatherFirst, settleFirst, pageOf, pageText, pageMost, batchPage, reasonsPage, PageSays};
+ghost use Rattle.report.specs.Batch.{lent, gatherFirst, settleFirst, pageOf, pageText, pageMost, batchPage, reasonsPage};
 ghost use Rattle.report.specs.Runs.{Leaves, RunsIn, programsIn, Fits, Runs, RanSays};
 
 // What comes of an input: a refusal, or how many cells and words of what was lent are the table and the area of its settled batch.

@@ -4,9 +4,9 @@ use mathlib.Core.List.{List, [], _∷_, _++_, append-assoc, append-nil}
 use Prim.Native.Nat.{ℕ, _+_, _≤_, _<_}
 use native.Mathlib.Omega.{arith}
 use native.Mathlib.Numerals.{add-one}
-use lib.ListN.{length, getD, set, take, drop, length-set, length-append, take-append-drop}
+use lib.ListN.{length, getD, set, take, drop, length-set, length-append, length-drop, take-append-drop}
 use lib.Seq.{length-take-le, take-at, drop-at, drop-drop, sets-eq, paste, paste-suc, take-length}
-use Rattle.text.specs.Writing.{pasted, Wrote, Room}
+use Rattle.text.specs.Writing.{pasted, Wrote, Room, PageSays}
 
 module _ (d : List ℕ) (at : ℕ) (w : List ℕ) (room : at + length w ≤ length d) where
   head-length : length (take at d ++ w) ≡ at + length w
@@ -62,6 +62,16 @@ module _ {out : List ℕ} {at : ℕ} (w x : List ℕ) (r : Room out at (w ++ x))
 
   pub wrote-both : {b c : List ℕ} {next end : ℕ} → Wrote out at w b next → Wrote b next x c end → Wrote out at (w ++ x) c end
   wrote-both h k = wrote-more h k (omega (arith, r .fits, length-append w x))
+
+-- a page is written at the front; it is not longer than there is
+pub page-says : {page out out′ : List ℕ} {r : ℕ} → Wrote out 0 page out′ r → PageSays page out r out′
+page-says {page} {out} {out′} w =
+    let e : out′ ≡ page ++ drop (length page) out = w .bytes ∙ pasted-front out page in
+    record {
+      bytes = e;
+      answer = omega (arith, w .next);
+      fits = omega (arith, w .next, w .long, ap length e, length-append page (drop (length page) out), length-drop (length page) out);
+    }
 
 -- ---- a text that is written piece by piece: what stands there, and the rest, which is still to come
 

@@ -15,3 +15,9 @@ pub record Wrote (before : List ℕ) (at : ℕ) (w : List ℕ) (after : List ℕ
 -- there is room for them
 pub record Room (out : List ℕ) (at : ℕ) (w : List ℕ) : Type 0 where
   pub fits : at + length w ≤ length out
+
+-- A call that makes a page: it stands at the front of what is lent, everything behind it is as it was, and its length is the answer.
+pub record PageSays (page out : List ℕ) (r : ℕ) (out′ : List ℕ) : Type 0 where
+  pub bytes : out′ ≡ page ++ drop (length page) out
+  pub answer : r ≡ length page
+  pub fits : r ≤ length out′

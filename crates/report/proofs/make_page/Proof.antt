@@ -3,9 +3,10 @@ use mathlib.Core.Path.{subst}
 use native.Mathlib.Nat.{sub-zero}
 use native.Mathlib.Omega.{arith}
 use borrow.Author.Needs.{needs}
+use Rattle.text.proofs.Writing.{page-says}
 use Rattle.report.specs.declared.Ran.{Ran}
 use Rattle.report.specs.Runs.{Refuses, Settles, RanSays}
-use Rattle.report.proofs.Pages.{page-says, page-refused, page-settled, refusal-room, settled-measured}
+use Rattle.report.proofs.Pages.{page-refused, page-settled, refusal-room, settled-measured}
 use Rattle.report.proofs.make_page.Statement.{statement}
 use Rattle.report.proofs.make_page.Tie as tie
 
