@@ -1,6 +1,6 @@
 -- The prefix, tried by computation on the definitions. The numbers are literals. Assumes nothing.
 use mathlib.Core.Path.{_≡_, refl}
-use mathlib.Core.List.{[], _∷_, _++_}
+use mathlib.Core.List.{[], _∷_}
 use lib.ListN.{take, replicate}
 use Rattle.prefix.specs.Prefix.{prefix}
 use Rattle.prefix.specs.Opened.{opened}

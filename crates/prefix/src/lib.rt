@@ -5,7 +5,7 @@ ghost use lib.ListN.{length, replicate};
 ghost use Rattle.text.specs.Filled.{texts};
 ghost use Rattle.text.specs.Writing.{Wrote, Room};
 ghost use Rattle.image.specs.Limits.{maxCells};
-ghost use Rattle.prefix.specs.Prefix.{two, four, cellAt, prefix, prefixBytes, PrefixSays};
+ghost use Rattle.prefix.specs.Prefix.{two, four, cellAt, prefixBytes, PrefixSays};
 
 // The bytes of the longest prefix.
 const MOST: usize = 2 + 4 * image::Image::CELLS;

@@ -1,0 +1,4 @@
+pub mod Said
+pub mod Long
+pub mod Cases
+pub mod Unique
