@@ -1,6 +1,6 @@
 -- Laws of what is said of arguments: what is written at the front of a room is said, how an argument is shown, and every line is short. Assumes nothing.
 use Prim.Native.Nat.{ℕ, _+_, _≤_, _<_, min}
-use mathlib.Core.Path.{_≡_, refl, _∙_}
+use mathlib.Core.Path.{_≡_, refl}
 use mathlib.Core.Bool.{Bool, true, false, cond}
 use mathlib.Core.List.{List, [], _∷_, _++_, append-nil}
 use native.Mathlib.Omega.{arith}
@@ -12,21 +12,13 @@ use Rattle.text.specs.declared.Numeral.{Numeral}
 use Rattle.text.specs.declared.Numeral.the-variants.{Number, TooLarge, NoNumber}
 use Rattle.text.specs.Decimal.{numeral}
 use Rattle.text.specs.Filled.{shown, filled, texts}
-use Rattle.text.specs.Writing.{Wrote, Room}
+use Rattle.text.specs.Writing.{PageSays, Room}
 use Rattle.text.proofs.Decimals.{wide-short}
 use Rattle.text.proofs.Fillings.{filled-short, texts-short}
-use Rattle.text.proofs.Writing.{pasted-front, room-first}
+use Rattle.text.proofs.Writing.{room-first}
 use Rattle.image.specs.Limits.{minCells, maxCells}
-use Rattle.arguments.specs.Words.{largestCell, noneWords, manyWords, byteOf, mostShown, shownWord, noNumberWords, tooLargeWords, mostWords, WordsSay}
+use Rattle.arguments.specs.Words.{largestCell, noneWords, manyWords, byteOf, mostShown, shownWord, noNumberWords, tooLargeWords, mostWords}
 use Rattle.arguments.specs.Words.{cellWords, withCell, CellSays}
-
-pub words-say : {words out out′ : List ℕ} {r : ℕ} → Room out 0 words → Wrote out 0 words out′ r → WordsSay words out r out′
-words-say {words} {out} room w =
-    record {
-      bytes = w .bytes ∙ pasted-front out words;
-      answer = omega (arith, w .next);
-      fits = omega (arith, w .next, w .long, room .fits);
-    }
 
 -- ---- an argument as it is shown, of which n bytes are: the first of them, all of them, and more than are shown
 
@@ -87,12 +79,12 @@ module _ (word t out : List ℕ) (c : ℕ) where
   unfolding cellWords withCell
   says-number e = record { words = rw e (record { bytes = refl; answer = refl; fits = omega arith }); table = rw e }
 
-  pub says-too-large : {r : ℕ} {out′ : List ℕ} → numeral largestCell word ≡ TooLarge → WordsSay (tooLargeWords (c + 1) word) out r out′
+  pub says-too-large : {r : ℕ} {out′ : List ℕ} → numeral largestCell word ≡ TooLarge → PageSays (tooLargeWords (c + 1) word) out r out′
       → CellSays word c t out r t out′
   unfolding cellWords withCell
   says-too-large e w = record { words = rw e w; table = rw e }
 
-  pub says-no-number : {r : ℕ} {out′ : List ℕ} → numeral largestCell word ≡ NoNumber → WordsSay (noNumberWords (c + 1) word) out r out′
+  pub says-no-number : {r : ℕ} {out′ : List ℕ} → numeral largestCell word ≡ NoNumber → PageSays (noNumberWords (c + 1) word) out r out′
       → CellSays word c t out r t out′
   unfolding cellWords withCell
   says-no-number e w = record { words = rw e w; table = rw e }

@@ -1,15 +1,16 @@
 -- What the program `cells` says where it writes nothing: the words of one line, behind the program's name. Assumes nothing.
-use Prim.Native.Nat.{ℕ, _+_, _≤_, min}
+use Prim.Native.Nat.{ℕ, _+_, min}
 use mathlib.Core.Path.{_≡_}
 use mathlib.Core.Bool.{cond, _&&_}
 use mathlib.Core.List.{List, [], _∷_, _++_}
 use lib.Dec.{leb}
-use lib.ListN.{length, getD, set, drop}
+use lib.ListN.{length, getD, set}
 use Rattle.text.specs.Ascii.{ascii}
 use Rattle.text.specs.declared.Numeral.{Numeral}
 use Rattle.text.specs.declared.Numeral.the-variants.{Number, TooLarge, NoNumber}
 use Rattle.text.specs.Decimal.{decimal, numeral}
 use Rattle.text.specs.Filled.{filled, texts}
+use Rattle.text.specs.Writing.{PageSays}
 use Rattle.image.specs.Limits.{minCells, maxCells}
 
 -- document 01, "Sizes": "Cells and registers hold 0 to 4294967295."
@@ -64,13 +65,7 @@ withCell (Number n) t c = set t c n
 withCell TooLarge t c = t
 withCell NoNumber t c = t
 
--- The contract of a call that makes them: they stand at the front of what is lent, everything behind them is as it was, and their length is the answer.
-pub record WordsSay (words out : List ℕ) (r : ℕ) (out′ : List ℕ) : Type 0 where
-  pub bytes : out′ ≡ words ++ drop (length words) out
-  pub answer : r ≡ length words
-  pub fits : r ≤ length out′
-
 -- The contract of the call that takes an argument as a cell: what is said, if anything, and the table.
 pub record CellSays (word : List ℕ) (c : ℕ) (t out : List ℕ) (r : ℕ) (t′ out′ : List ℕ) : Type 0 where
-  pub words : WordsSay (cellWords (numeral largestCell word) c word) out r out′
+  pub words : PageSays (cellWords (numeral largestCell word) c word) out r out′
   pub table : t′ ≡ withCell (numeral largestCell word) t c

@@ -4,9 +4,9 @@ ghost use mathlib.Core.Path.{_≡_};
 ghost use Prim.Native.Nat.{_+_, _≤_, _<_, min};
 ghost use lib.ListN.{length, replicate};
 ghost use Rattle.text.specs.Filled.{texts};
-ghost use Rattle.text.specs.Writing.{Wrote, Room};
+ghost use Rattle.text.specs.Writing.{PageSays, Wrote, Room};
 ghost use Rattle.image.specs.Limits.{maxCells};
-ghost use Rattle.arguments.specs.Words.{noneWords, manyWords, shownByte, byteOf, mostShown, shownWord, noNumberWords, tooLargeWords, mostWords, WordsSay, CellSays};
+ghost use Rattle.arguments.specs.Words.{noneWords, manyWords, shownByte, byteOf, mostShown, shownWord, noNumberWords, tooLargeWords, mostWords, CellSays};
 
 // Room for the words.
 const MOST: usize = 100;
@@ -20,7 +20,7 @@ pub fn room() -> [u8; MOST]
 // There is none.
 pub fn put_none(out: &mut [u8]) -> usize
     requires { ⌜ mostWords ≤ length (now out) ⌝ }
-    ensures { λ r. ⌜ WordsSay noneWords (now (out .entry)) r (now (out .exit)) ⌝ }
+    ensures { λ r. ⌜ PageSays noneWords (now (out .entry)) r (now (out .exit)) ⌝ }
 {
     let numbers = [image::Image::LEAST_CELLS as u32, image::Image::CELLS as u32];
     text::put_filled(
@@ -34,7 +34,7 @@ pub fn put_none(out: &mut [u8]) -> usize
 // There are so many.
 pub fn put_many(out: &mut [u8], count: usize) -> usize
     requires { ⌜ mostWords ≤ length (now out) ⌝ }
-    ensures { λ r. ⌜ WordsSay (manyWords count) (now (out .entry)) r (now (out .exit)) ⌝ }
+    ensures { λ r. ⌜ PageSays (manyWords count) (now (out .entry)) r (now (out .exit)) ⌝ }
 {
     let next = text::put_decimal(out, 0, count as u64);
     let numbers = [image::Image::CELLS as u32];
@@ -99,7 +99,7 @@ fn put_word(out: &mut [u8], at: usize, word: &[u8]) -> usize
 // The argument at a place, from 1, is no number.
 fn put_no_number(out: &mut [u8], place: u32, word: &[u8]) -> usize
     requires { ⌜ mostWords ≤ length (now out) ⌝ }
-    ensures { λ r. ⌜ WordsSay (noNumberWords place (now (word .entry))) (now (out .entry)) r (now (out .exit)) ⌝ }
+    ensures { λ r. ⌜ PageSays (noNumberWords place (now (word .entry))) (now (out .entry)) r (now (out .exit)) ⌝ }
 {
     let numbers = [place];
     let next = text::put_filled(out, 0, b"argument # is no number: ", &numbers[..]);
@@ -109,7 +109,7 @@ fn put_no_number(out: &mut [u8], place: u32, word: &[u8]) -> usize
 // It is more than a cell can hold.
 fn put_too_large(out: &mut [u8], place: u32, word: &[u8]) -> usize
     requires { ⌜ mostWords ≤ length (now out) ⌝ }
-    ensures { λ r. ⌜ WordsSay (tooLargeWords place (now (word .entry))) (now (out .entry)) r (now (out .exit)) ⌝ }
+    ensures { λ r. ⌜ PageSays (tooLargeWords place (now (word .entry))) (now (out .entry)) r (now (out .exit)) ⌝ }
 {
     let numbers = [place, u32::MAX];
     let next = text::put_filled(out, 0, b"argument # is over #: ", &numbers[..]);

@@ -4,9 +4,9 @@ use native.Mathlib.Omega.{arith}
 use borrow.Author.Needs.{needs}
 use denote.Ref.{now}
 use Rattle.text.specs.Writing.{Room}
-use Rattle.text.proofs.Writing.{room-first, room-then, wrote-both}
+use Rattle.text.proofs.Writing.{page-says, room-first, room-then, wrote-both}
 use Rattle.arguments.specs.Words.{manyWords}
-use Rattle.arguments.proofs.Said.{words-say, many-room}
+use Rattle.arguments.proofs.Said.{many-room}
 use Rattle.arguments.proofs.put_many.Statement.{statement}
 use Rattle.arguments.proofs.put_many.Tie as tie
 
@@ -29,7 +29,7 @@ returns c =
     let q = c .before .before in
     let p = q .before .before .before .before .before .before in
     let r = room (p .before .before .before) in
-    words-say r (wrote-both _ _ r (p .put-decimal .ensures) (q .put-filled .ensures))
+    page-says (wrote-both _ _ r (p .put-decimal .ensures) (q .put-filled .ensures))
 
 pub put-many-spec : {M : Type 1} → statement M
 put-many-spec =

@@ -1,7 +1,8 @@
 -- The text is the definition's, and its numbers are the limits. Assumes nothing.
 use borrow.Author.Needs.{needs}
 use Rattle.arguments.specs.Words.{noneWords}
-use Rattle.arguments.proofs.Said.{words-say, none-room}
+use Rattle.text.proofs.Writing.{page-says}
+use Rattle.arguments.proofs.Said.{none-room}
 use Rattle.arguments.proofs.put_none.Statement.{statement}
 use Rattle.arguments.proofs.put_none.Tie as tie
 
@@ -14,7 +15,7 @@ unfolding noneWords
 returns c =
     let p = c .before .before in
     let s = p .before .before .before .before .before in
-    words-say (none-room (s .args .out .now) (s .pre)) (p .put-filled .ensures)
+    page-says (p .put-filled .ensures)
 
 pub put-none-spec : {M : Type 1} → statement M
 put-none-spec =
