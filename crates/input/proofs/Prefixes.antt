@@ -12,7 +12,8 @@ use borrow.Author.Count.{below-more}
 use borrow.Author.Tests.{leb-true, le-leb}
 use Rattle.base.proofs.Bools.{and-both, both-and, not-true, not-false}
 use Rattle.image.specs.Limits.{minCells, maxCells}
-use Rattle.input.specs.Prefix.{cellsNamed, prefixBytes, prefixGood, cellsOf}
+use Rattle.prefix.specs.Prefix.{prefixBytes}
+use Rattle.input.specs.Prefix.{cellsNamed, prefixGood, cellsOf}
 
 -- What a good prefix shows.
 pub record Whole (input : List ℕ) (T : ℕ) : Type 0 where

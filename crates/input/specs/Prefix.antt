@@ -7,14 +7,11 @@ use lib.ListN.{length, drop}
 use Rattle.base.specs.Words.{tabulate}
 use Rattle.image.specs.Limits.{minCells, maxCells}
 use Rattle.image.specs.Image.{byteAt, numberAt}
+use Rattle.prefix.specs.Prefix.{prefixBytes}
 
 -- "T in two bytes (low first)"
 abbrev pub cellsNamed : List ℕ → ℕ
 cellsNamed input = numberAt input 0
-
--- how many bytes T and the first cells have
-abbrev pub prefixBytes : ℕ → ℕ
-prefixBytes cells = 2 + 4 * cells
 
 -- "T cells of four bytes (low first)"
 unfoldable pub wordAt : List ℕ → ℕ → ℕ

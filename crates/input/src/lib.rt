@@ -3,7 +3,8 @@ ghost use mathlib.Core.Path.{_≡_};
 ghost use Prim.Native.Nat.{_+_, _≤_, _<_};
 ghost use lib.ListN.{length};
 ghost use Rattle.io.specs.Counts.{Counts};
-ghost use Rattle.input.specs.Prefix.{prefixBytes, wordAt, tableIn, imageIn, cellsOf};
+ghost use Rattle.prefix.specs.Prefix.{prefixBytes};
+ghost use Rattle.input.specs.Prefix.{wordAt, tableIn, imageIn, cellsOf};
 
 const IN: i32 = 0;
 

@@ -5,9 +5,9 @@ use mathlib.Core.List.{List, _++_}
 use native.Mathlib.Omega.{arith}
 use lib.ListN.{length, getD, length-append}
 use Rattle.text.specs.Filled.{texts}
-use Rattle.text.specs.Writing.{Wrote, Room}
-use Rattle.text.proofs.Writing.{pasted-front, wrote-both}
-use Rattle.prefix.specs.Prefix.{two, four, cellAt, prefix, prefixBytes, PrefixSays}
+use Rattle.text.specs.Writing.{Wrote, Room, PageSays}
+use Rattle.text.proofs.Writing.{wrote-both, page-says}
+use Rattle.prefix.specs.Prefix.{two, four, cellAt, prefix, prefixBytes}
 
 -- the bytes of a number, read back low first
 pub two-back : (n : ℕ) → n < 65536 → getD (two n) 0 0 + 256 * getD (two n) 1 0 ≡ n
@@ -18,7 +18,7 @@ pub four-back : (n : ℕ) → n < 4294967296
 four-back n h = omega arith
 
 -- each cell has four bytes
-cells-long : (cells : List ℕ) (n : ℕ) → length (texts (cellAt cells) n) ≡ 4 * n
+pub cells-long : (cells : List ℕ) (n : ℕ) → length (texts (cellAt cells) n) ≡ 4 * n
 unfolding texts cellAt
 cells-long cells zero = refl
 cells-long cells (suc n) = rw length-append (omega (arith, cells-long cells n))
@@ -33,12 +33,6 @@ module _ (cells out : List ℕ) (room : prefixBytes (length cells) ≤ length ou
   prefix-room = record { fits = omega (arith, prefix-long cells, room) }
 
   pub prefix-says : {next r : ℕ} {out′ out″ : List ℕ} → Wrote out 0 (two (length cells)) out′ next
-      → Wrote out′ next (texts (cellAt cells) (length cells)) out″ r → PrefixSays cells out r out″
+      → Wrote out′ next (texts (cellAt cells) (length cells)) out″ r → PageSays (prefix cells) out r out″
   unfolding prefix
-  prefix-says h k =
-      let w = wrote-both _ _ prefix-room h k in
-      record {
-        bytes = w .bytes ∙ pasted-front out _;
-        answer = omega (arith, w .next);
-        fits = omega (arith, w .next, w .long, prefix-room .fits);
-      }
+  prefix-says h k = page-says (wrote-both _ _ prefix-room h k)

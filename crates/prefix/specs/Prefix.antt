@@ -24,9 +24,3 @@ prefix cells = two (length cells) ++ texts (cellAt cells) (length cells)
 -- how many bytes that is
 abbrev pub prefixBytes : (cells : ℕ) → ℕ
 prefixBytes cells = 2 + 4 * cells
-
--- The contract of the call: the prefix stands at the front of what is lent, everything behind it is as it was, and its length is the answer.
-pub record PrefixSays (cells out : List ℕ) (r : ℕ) (out′ : List ℕ) : Type 0 where
-  pub bytes : out′ ≡ prefix cells ++ drop (length (prefix cells)) out
-  pub answer : r ≡ length (prefix cells)
-  pub fits : r ≤ length out′

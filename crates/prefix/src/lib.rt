@@ -3,9 +3,9 @@ ghost use mathlib.Core.Path.{_≡_};
 ghost use Prim.Native.Nat.{_+_, _≤_};
 ghost use lib.ListN.{length, replicate};
 ghost use Rattle.text.specs.Filled.{texts};
-ghost use Rattle.text.specs.Writing.{Wrote, Room};
+ghost use Rattle.text.specs.Writing.{Wrote, Room, PageSays};
 ghost use Rattle.image.specs.Limits.{maxCells};
-ghost use Rattle.prefix.specs.Prefix.{two, four, cellAt, prefixBytes, PrefixSays};
+ghost use Rattle.prefix.specs.Prefix.{two, four, cellAt, prefix, prefixBytes};
 
 // The bytes of the longest prefix.
 const MOST: usize = 2 + 4 * image::Image::CELLS;
@@ -51,7 +51,7 @@ fn put_cells(out: &mut [u8], at: usize, cells: &[u32]) -> usize
 // The prefix of a table, at the front of what is lent.
 pub fn put_prefix(out: &mut [u8], cells: &[u32]) -> usize
     requires { ⌜ (length (now cells) ≤ maxCells) × (prefixBytes (length (now cells)) ≤ length (now out)) ⌝ }
-    ensures { λ r. ⌜ PrefixSays (now (cells .entry)) (now (out .entry)) r (now (out .exit)) ⌝ }
+    ensures { λ r. ⌜ PageSays (prefix (now (cells .entry))) (now (out .entry)) r (now (out .exit)) ⌝ }
 {
     let next = put_two(out, 0, cells.len() as u32);
     put_cells(out, next, cells)

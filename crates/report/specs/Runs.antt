@@ -10,7 +10,8 @@ use Rattle.image.specs.Limits.{maxPrograms}
 use Rattle.image.specs.Image.{countOf}
 use Rattle.area.specs.Layout.{areaWords}
 use Rattle.area.specs.Checks.{openRefusal}
-use Rattle.input.specs.Prefix.{prefixBytes, imageIn}
+use Rattle.prefix.specs.Prefix.{prefixBytes}
+use Rattle.input.specs.Prefix.{imageIn}
 use Rattle.report.specs.declared.Ran.{Ran}
 use Rattle.report.specs.declared.Ran.the-variants.{Refused, Settled}
 use Rattle.report.specs.Batch.{Lent, lent, workArea, batchOn, imageOf, inputRefusal, batchOf}

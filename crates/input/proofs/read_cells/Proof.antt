@@ -6,7 +6,8 @@ use lib.ListN.{length, getD, length-set}
 use borrow.Author.Count.{below-none}
 use borrow.Author.Needs.{needs}
 use Rattle.base.proofs.Tables.{tabulate-is}
-use Rattle.input.specs.Prefix.{prefixBytes, wordAt}
+use Rattle.prefix.specs.Prefix.{prefixBytes}
+use Rattle.input.specs.Prefix.{wordAt}
 use Rattle.input.proofs.Prefixes.{one-more}
 use Rattle.input.proofs.read_cells.Statement.{statement}
 use Rattle.input.proofs.read_cells.Tie as tie
