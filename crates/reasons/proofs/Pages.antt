@@ -1,23 +1,16 @@
--- Laws of the page: a carried program's place, what is said in each state, and one program after another. Assumes nothing.
-use Prim.Native.Nat.{ℕ, zero, suc, _+_, _-_, _*_, _/_, _%_, _≤_, _<_}
+-- Laws of the page: a carried program's place, what is said in each state, and what the detail of a fault says. Assumes nothing.
+use Prim.Native.Nat.{ℕ, _+_, _-_, _*_, _/_, _%_, _≤_, _<_}
 use mathlib.Core.Path.{_≡_, sym, _∙_}
-use mathlib.Core.Logic.{_⊎_, inl, inr}
 use mathlib.Core.Bool.{true, false, cond}
 use mathlib.Core.List.{List}
 use native.Mathlib.Omega.{arith}
 use native.Mathlib.Numerals.{add-one}
 use lib.Dec.{eqb}
-use lib.ListN.{length, length-append}
+use lib.ListN.{length}
 use borrow.Author.Tests.{eq-eqb, ne-eqb}
 use Rattle.base.specs.Words.{count}
-use Rattle.base.proofs.Numbers.{below}
 use Rattle.base.proofs.Counts.{count-none, count-le}
-use Rattle.text.specs.Writing.{Wrote, Room}
-use Rattle.text.specs.Filled.{texts}
-use Rattle.text.proofs.Writing.{wrote-none, wrote-more}
-use Rattle.text.proofs.Fillings.{texts-none, texts-more}
 use Rattle.image.specs.Refusals as refusal
-use Rattle.image.specs.Image.{countOf}
 use Rattle.slot.specs.declared.Group.the-variants.{Committed, Carried}
 use Rattle.slot.specs.States as state
 use Rattle.slot.specs.States.{isIn}
@@ -31,7 +24,7 @@ use Rattle.machine.specs.Runs.{loadFault, storeFault, detailOfRun}
 use Rattle.sentences.specs.Sentences as sentences
 use Rattle.sentences.specs.Sentences.{rejected}
 use Rattle.refused.specs.Refused.{refusedLine}
-use Rattle.reasons.specs.Reasons.{committedText, carriedText, faultedText, placeOf, programText, reasonsText}
+use Rattle.reasons.specs.Reasons.{committedText, carriedText, faultedText, placeOf, programText}
 
 module _ (T : ℕ) (a : List ℕ) where
   pub place-none : placeOf T 0 a ≡ 0
@@ -83,39 +76,6 @@ module _ (image t a : List ℕ) (k s : ℕ) (e : s ≡ stateOf (length t) k a) w
         pub says-not-ended : isIn Carried s ≡ false → programText image t a k ≡ refusedLine refusal.state
         unfolding programText inGroup
         says-not-ended h = rw (is-not _ r, is-not _ f, ← e, c, h)
-
--- ---- the page as far as program k: what stands there, what k needs, and what it leaves
-
-texts-grow : (f : ℕ → List ℕ) (n k : ℕ) → k < n → length (texts f k) + length (f k) ≤ length (texts f n)
-unfolding texts
-texts-grow f zero k l = absurd (omega arith)
-texts-grow f (suc n) k l = rw length-append (go (below k n l) (texts-grow f n k))
-  where
-    go : (k ≡ n) ⊎ (k < n) → (k < n → length (texts f k) + length (f k) ≤ length (texts f n))
-        → length (texts f k) + length (f k) ≤ length (texts f n) + length (f n)
-    go (inl e) grow = rw e (omega arith)
-    go (inr h) grow = omega (arith, grow h)
-
-module _ (image t a : List ℕ) where
-  pub page-none : (out : List ℕ) (at : ℕ) → Wrote out at (texts (programText image t a) 0) out at
-  page-none out at = rw texts-none (wrote-none out at)
-
-  module _ {out : List ℕ} {at : ℕ} (k : ℕ) {o : List ℕ} {r : ℕ} (room : Room out at (reasonsText image t a)) (l : k < countOf image)
-      (w : Wrote out at (texts (programText image t a) k) o r) where
-    fits-more : at + length (texts (programText image t a) k) + length (programText image t a k) ≤ length out
-    unfolding reasonsText
-    fits-more = omega (arith, room .fits, texts-grow (programText image t a) (countOf image) k l)
-
-    pub page-room : Room o r (programText image t a k)
-    page-room = record { fits = omega (arith, fits-more, w .long, w .next) }
-
-    pub page-more : {o′ : List ℕ} {r′ : ℕ} → Wrote o r (programText image t a k) o′ r′ → Wrote out at (texts (programText image t a) (k + 1)) o′ r′
-    page-more v = rw texts-more (wrote-more w v fits-more)
-
-  pub page-end : {out : List ℕ} {at : ℕ} {o : List ℕ} {r : ℕ} (k : ℕ) → k ≡ countOf image → Wrote out at (texts (programText image t a) k) o r
-      → Wrote out at (reasonsText image t a) o r
-  unfolding reasonsText
-  page-end k e w = rw e at w
 
 -- ---- the detail that a fault leaves is read back: its kind, and where it was
 

@@ -6,8 +6,9 @@ use lib.ListN.{length}
 use borrow.Author.Needs.{needs}
 use Rattle.text.specs.Filled.{texts}
 use Rattle.text.specs.Writing.{Wrote}
+use Rattle.text.proofs.Writing.{wrote-none}
+use Rattle.text.proofs.Fillings.{texts-none, text-room, text-turn}
 use Rattle.results.specs.Listing.{cellLine}
-use Rattle.results.proofs.Lines.{none-wrote, turn-fits, turn-wrote}
 use Rattle.results.proofs.put_cells.Statement.{statement}
 use Rattle.results.proofs.put_cells.Tie as tie
 
@@ -21,20 +22,20 @@ abbrev start-of : tie.At-loop Inv-loop μ-loop → tie.Start Inv-loop μ-loop
 start-of c = c .before .before .before
 
 loop-holds : tie.Need-loop-holds Inv-loop μ-loop
-loop-holds c = let a = c .before .before .args in (search needs, search needs, none-wrote (cellLine (a .table .now)) (a .out .now) (a .at))
+loop-holds c = let a = c .before .before .args in (search needs, search needs, rw (texts-none (cellLine (a .table .now))) (wrote-none (a .out .now) (a .at)))
 
 put-cell-requires : tie.Need-put-cell-requires Inv-loop μ-loop
 put-cell-requires c κs =
     let l = c .before .before in
     let s = start-of l in
-    (omega arith, s .pre .0, turn-fits (cellLine (s .args .table .now)) (s .pre .1) (omega arith) (l .loop .inv .2))
+    (omega arith, s .pre .0, text-room (cellLine (s .args .table .now)) (omega arith) (l .loop .inv .2) (s .pre .1))
 
 loop-again : tie.Need-loop-again Inv-loop μ-loop
 loop-again c =
     let u = c .before .before in
     let l = u .before .before .before in
     let s = start-of l in
-    (search needs, search needs, turn-wrote (cellLine (s .args .table .now)) (s .pre .1) (omega arith) (l .loop .inv .2) (u .put-cell .ensures))
+    (search needs, search needs, text-turn (cellLine (s .args .table .now)) (omega arith) (l .loop .inv .2) (s .pre .1) (u .put-cell .ensures))
 
 returns : tie.Need-returns Inv-loop μ-loop
 returns c =

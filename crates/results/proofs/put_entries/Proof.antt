@@ -6,8 +6,9 @@ use lib.ListN.{length}
 use borrow.Author.Needs.{needs}
 use Rattle.text.specs.Filled.{texts}
 use Rattle.text.specs.Writing.{Wrote}
+use Rattle.text.proofs.Writing.{wrote-none}
+use Rattle.text.proofs.Fillings.{texts-none, text-room, text-turn}
 use Rattle.results.specs.Listing.{orderEntry}
-use Rattle.results.proofs.Lines.{none-wrote, turn-fits, turn-wrote}
 use Rattle.results.proofs.put_entries.Statement.{statement}
 use Rattle.results.proofs.put_entries.Tie as tie
 
@@ -21,20 +22,20 @@ abbrev start-of : tie.At-loop Inv-loop μ-loop → tie.Start Inv-loop μ-loop
 start-of c = c .before .before .before
 
 loop-holds : tie.Need-loop-holds Inv-loop μ-loop
-loop-holds c = let a = c .before .before .args in (search needs, search needs, none-wrote (orderEntry (a .order .now)) (a .out .now) (a .at))
+loop-holds c = let a = c .before .before .args in (search needs, search needs, rw (texts-none (orderEntry (a .order .now))) (wrote-none (a .out .now) (a .at)))
 
 put-entry-requires : tie.Need-put-entry-requires Inv-loop μ-loop
 put-entry-requires c κs =
     let l = c .before .before in
     let s = start-of l in
-    (omega arith, turn-fits (orderEntry (s .args .order .now)) (s .pre) (omega arith) (l .loop .inv .2))
+    (omega arith, text-room (orderEntry (s .args .order .now)) (omega arith) (l .loop .inv .2) (s .pre))
 
 loop-again : tie.Need-loop-again Inv-loop μ-loop
 loop-again c =
     let u = c .before .before in
     let l = u .before .before .before in
     let s = start-of l in
-    (search needs, search needs, turn-wrote (orderEntry (s .args .order .now)) (s .pre) (omega arith) (l .loop .inv .2) (u .put-entry .ensures))
+    (search needs, search needs, text-turn (orderEntry (s .args .order .now)) (omega arith) (l .loop .inv .2) (s .pre) (u .put-entry .ensures))
 
 returns : tie.Need-returns Inv-loop μ-loop
 returns c =

@@ -5,9 +5,10 @@ use native.Mathlib.Omega.{arith}
 use borrow.Author.Needs.{needs}
 use Rattle.text.specs.Filled.{texts}
 use Rattle.text.specs.Writing.{Wrote}
+use Rattle.text.proofs.Writing.{wrote-none}
+use Rattle.text.proofs.Fillings.{texts-none, text-room, text-turn}
 use Rattle.area.proofs.Checks.{measured-lies}
 use Rattle.results.specs.Listing.{programLine}
-use Rattle.results.proofs.Lines.{none-wrote, turn-fits, turn-wrote}
 use Rattle.results.proofs.put_programs.Statement.{statement}
 use Rattle.results.proofs.put_programs.Tie as tie
 
@@ -23,14 +24,14 @@ start-of c = c .before .before .before
 loop-holds : tie.Need-loop-holds Inv-loop μ-loop
 loop-holds c =
     let a = c .before .before .args in
-    (search needs, none-wrote (programLine (a .cells) (a .area .now)) (a .out .now) (a .at))
+    (search needs, rw (texts-none (programLine (a .cells) (a .area .now))) (wrote-none (a .out .now) (a .at)))
 
 put-program-requires : tie.Need-put-program-requires Inv-loop μ-loop
 put-program-requires c κs =
     let l = c .before .before in
     let s = start-of l in (
       measured-lies _ _ _ (s .pre .0) _ (omega arith),
-      turn-fits (programLine (s .args .cells) (s .args .area .now)) (s .pre .1) (omega arith) (l .loop .inv .1),
+      text-room (programLine (s .args .cells) (s .args .area .now)) (omega arith) (l .loop .inv .1) (s .pre .1),
     )
 
 loop-again : tie.Need-loop-again Inv-loop μ-loop
@@ -38,7 +39,7 @@ loop-again c =
     let u = c .before .before in
     let l = u .before .before .before in
     let s = start-of l in
-    (search needs, turn-wrote (programLine (s .args .cells) (s .args .area .now)) (s .pre .1) (omega arith) (l .loop .inv .1) (u .put-program .ensures))
+    (search needs, text-turn (programLine (s .args .cells) (s .args .area .now)) (omega arith) (l .loop .inv .1) (s .pre .1) (u .put-program .ensures))
 
 returns : tie.Need-returns Inv-loop μ-loop
 returns c =
