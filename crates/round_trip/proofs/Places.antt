@@ -5,15 +5,14 @@ use mathlib.Core.Bool.{true, false}
 use mathlib.Core.List.{List, [], _∷_, _++_, append-assoc}
 use Prim.Native.Nat.{ℕ, zero, suc, _+_, _*_, _≤_, _<_}
 use native.Mathlib.Omega.{arith}
-use lib.Dec.{eqb, ltb}
+use lib.Dec.{ltb}
 use lib.ListN.{length, getD, drop, length-take, List·getD-eq-default}
-use borrow.Author.Tests.{ltb-true, ltb-false, lt-ltb, ne-eqb}
+use borrow.Author.Tests.{ltb-true, ltb-false, lt-ltb}
 use Rattle.base.specs.Words.{words}
-use Rattle.base.proofs.Bools.{known, clash}
-use Rattle.base.proofs.Numbers.{every-at}
+use Rattle.base.proofs.Bools.{known}
 use Rattle.base.proofs.Parts.{words-at}
 use Rattle.image.specs.Limits.{instructionBytes}
-use Rattle.image.specs.Instruction.{instructionGood, instructionsOf, placeGood, programGood}
+use Rattle.image.specs.Instruction.{instructionsOf}
 use Rattle.image.specs.Image.{byteAt, countOf, offsetOf, bytesOf, partOf}
 use Rattle.image.proofs.Laws.{Accepted}
 use Rattle.writer.specs.Picked.{pick, picked, allOf}
@@ -21,10 +20,11 @@ use Rattle.writer.proofs.Again.{part-fine}
 use Rattle.writer.proofs.Good.{Fine}
 use Rattle.sheet.specs.declared.Line.{Line}
 use Rattle.sheet.specs.declared.Line.the-variants as line
-use Rattle.sheet.specs.Sheet.{operations, largestRule, allowed}
+use Rattle.sheet.specs.Sheet.{largestRule, allowed}
 use Rattle.sheet.proofs.Lines.{TypedInstruction}
 use Rattle.sheet.proofs.Sheets.{Placed, WellPlaced}
 use Rattle.from_image.specs.FromImage.{instructionAt, firstLines, programLines, programsLines, linesFor}
+use Rattle.from_image.proofs.Sheets.{named-at}
 use Rattle.round_trip.specs.Bytes.{Bytes}
 
 -- ---- bytes
@@ -46,33 +46,6 @@ words-bytes at n xs b i = go (known (ltb i n))
     go (inr l) =
         omega (arith, List·getD-eq-default (words at n xs) 0 {n = i} (omega (arith, length-take n (drop at xs), ltb-false i n l)))
 
--- ---- an instruction that is good has a name
-
-bad : (op a b c i m : ℕ) → operations ≤ op → instructionGood op a b c i m ≡ false
-unfolding instructionGood
-bad op a b c i m h =
-    rw (
-      other 0 (omega arith),
-      other 1 (omega arith),
-      other 2 (omega arith),
-      other 3 (omega arith),
-      other 4 (omega arith),
-      other 5 (omega arith),
-      other 6 (omega arith),
-      other 7 (omega arith),
-      other 8 (omega arith),
-    )
-  where
-    other : (k : ℕ) → k < operations → eqb op k ≡ false
-    other k l = ne-eqb op k (λ e. omega arith)
-
-named : (op a b c i m : ℕ) → instructionGood op a b c i m ≡ true → op < operations
-named op a b c i m h = go (known (ltb op operations))
-  where
-    go : (ltb op operations ≡ true) ⊎ (ltb op operations ≡ false) → op < operations
-    go (inl l) = ltb-true _ _ l
-    go (inr l) = clash h (bad op a b c i m (ltb-false _ _ l))
-
 -- ---- a program that can be typed, and all of them
 
 pub record Typable (p : List ℕ) : Type 0 where
@@ -83,10 +56,9 @@ AllTypable [] = Unit {0}
 AllTypable (p ∷ ps) = Typable p × AllTypable ps
 
 typable : (p : List ℕ) → Fine p → ((i : ℕ) → getD p i 0 < 256) → Typable p
-unfolding programGood placeGood
 typable p f b = record {
   each = λ i l. record {
-    named = named _ _ _ _ i (instructionsOf p) (every-at (instructionsOf p) (λ k. placeGood p k) (f .code) i l);
+    named = named-at p (f .code) i l;
     byte-a = omega (arith, b (instructionBytes * i + 1));
     byte-b = omega (arith, b (instructionBytes * i + 2));
     byte-c = omega (arith, b (instructionBytes * i + 3));
