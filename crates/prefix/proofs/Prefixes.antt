@@ -1,6 +1,6 @@
--- Laws of the prefix: its numbers read back, and how long it is. Assumes nothing.
+-- Laws of the prefix: a cell read back, and how long it is. Assumes nothing.
 use Prim.Native.Nat.{ℕ, zero, suc, _+_, _*_, _≤_, _<_}
-use mathlib.Core.Path.{_≡_, refl, _∙_}
+use mathlib.Core.Path.{_≡_, refl}
 use mathlib.Core.List.{List, _++_}
 use native.Mathlib.Omega.{arith}
 use lib.ListN.{length, getD, length-append}
@@ -9,10 +9,7 @@ use Rattle.text.specs.Writing.{Wrote, Room, PageSays}
 use Rattle.text.proofs.Writing.{wrote-both, page-says}
 use Rattle.prefix.specs.Prefix.{two, four, cellAt, prefix, prefixBytes}
 
--- the bytes of a number, read back low first
-pub two-back : (n : ℕ) → n < 65536 → getD (two n) 0 0 + 256 * getD (two n) 1 0 ≡ n
-two-back n h = omega arith
-
+-- the bytes of a cell, read back low first
 pub four-back : (n : ℕ) → n < 4294967296
     → getD (four n) 0 0 + 256 * getD (four n) 1 0 + 65536 * getD (four n) 2 0 + 16777216 * getD (four n) 3 0 ≡ n
 four-back n h = omega arith

@@ -1,9 +1,8 @@
 -- Document 01, "Bench sheet": "The program reads T in two bytes (low first), T cells of four bytes (low first), then the image." What stands before the image,
 -- of a table's cells. Assumes nothing.
-use Prim.Native.Nat.{ℕ, _+_, _*_, _/_, _%_, _≤_}
-use mathlib.Core.Path.{_≡_}
+use Prim.Native.Nat.{ℕ, _+_, _*_, _/_, _%_}
 use mathlib.Core.List.{List, [], _∷_, _++_}
-use lib.ListN.{length, getD, drop}
+use lib.ListN.{length, getD}
 use Rattle.text.specs.Filled.{texts}
 
 -- a number of 16 bits and one of 32, low byte first

@@ -80,16 +80,13 @@ module _ (image t a : List ℕ) (k s : ℕ) (e : s ≡ stateOf (length t) k a) w
 -- ---- the detail that a fault leaves is read back: its kind, and where it was
 
 module _ (k at T : ℕ) (few : at < 256) where
+  parts-back : (kind : ℕ) → ((256 * kind + at) / 256 ≡ kind) × ((256 * kind + at) % 256 ≡ at)
+  parts-back kind = (omega arith, omega arith)
+
   pub reads-load : faultedText k (detailOfRun (Faulted loadFault at)) T ≡ sentences.loadFault k at (T - 1)
   unfolding faultedText
-  reads-load =
-      let q : (256 * loadFault + at) / 256 ≡ loadFault = omega arith in
-      let r : (256 * loadFault + at) % 256 ≡ at = omega arith in
-      rw (q, r)
+  reads-load = rw (parts-back loadFault .0, parts-back loadFault .1)
 
   pub reads-store : faultedText k (detailOfRun (Faulted storeFault at)) T ≡ sentences.storeFault k at (T - 1)
   unfolding faultedText
-  reads-store =
-      let q : (256 * storeFault + at) / 256 ≡ storeFault = omega arith in
-      let r : (256 * storeFault + at) % 256 ≡ at = omega arith in
-      rw (q, r)
+  reads-store = rw (parts-back storeFault .0, parts-back storeFault .1)

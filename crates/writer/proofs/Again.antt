@@ -70,10 +70,6 @@ words-two : (at : ℕ) (xs : List ℕ) → at + 2 ≤ length xs → words at 2 x
 unfolding words
 words-two at xs h = rw (drop-cons xs at 0 (omega arith), add-one at, drop-cons xs (suc at) 0 (omega arith))
 
-words-nothing : (at : ℕ) (xs : List ℕ) → words at 0 xs ≡ []
-unfolding words
-words-nothing at xs = refl
-
 -- ---- a number that was read is written as it stands
 
 number-back : (a b : ℕ) → a < 256 → b < 256 → number (a + 256 * b) ≡ a ∷ b ∷ []
