@@ -161,21 +161,29 @@ bench-sheet = refl
 -- the column "no."
 abbrev named : List Refusal
 named =
-    refusal.none ∷ refusal.imageSize ∷ refusal.header ∷ refusal.offsets ∷ refusal.instruction ∷ refusal.tableSize ∷ refusal.areaSize ∷ refusal.area
-    ∷ refusal.number ∷ refusal.state ∷ refusal.tooShort ∷ refusal.tooMany ∷ refusal.noOrder ∷ []
+    refusal.none ∷ refusal.imageSize ∷ refusal.header ∷ refusal.offsets ∷ refusal.tableSize ∷ refusal.areaSize ∷ refusal.area ∷ refusal.number
+    ∷ refusal.state ∷ refusal.tooShort ∷ refusal.tooMany ∷ refusal.noOrder ∷ []
 
-numbers : map (λ r. r .number) named ≡ 0 ∷ 1 ∷ 2 ∷ 3 ∷ 4 ∷ 5 ∷ 6 ∷ 7 ∷ 8 ∷ 9 ∷ 10 ∷ 11 ∷ 12 ∷ []
+numbers : map (λ r. r .number) named ≡ 0 ∷ 1 ∷ 2 ∷ 3 ∷ 5 ∷ 6 ∷ 7 ∷ 8 ∷ 9 ∷ 10 ∷ 11 ∷ 12 ∷ []
 numbers = refl
+
+-- document 02, ask 2: "41 unknown operation, 42 register over 7, 43 an unused byte not 0, 44 skip past the end"
+abbrev faults : List Refusal
+faults = refusal.operation ∷ refusal.register ∷ refusal.unused ∷ refusal.skip ∷ []
+
+numbers-of-faults : map (λ r. r .number) faults ≡ 41 ∷ 42 ∷ 43 ∷ 44 ∷ []
+numbers-of-faults = refl
 
 -- document 02, ask 3: "13 this program is not carried; 15 its detail is not the reason .."
 numbers-of-why : refusal.notCarried .number ∷ refusal.reason .number ∷ [] ≡ 13 ∷ 15 ∷ []
 numbers-of-why = refl
 
--- "21–24: as 1–4, for the fresh image"
-numbers-of-fresh : map (λ r. refusal.ofFresh r .number) (refusal.imageSize ∷ refusal.header ∷ refusal.offsets ∷ refusal.instruction ∷ []) ≡ 21 ∷ 22 ∷ 23 ∷ 24 ∷ []
-numbers-of-fresh = refl
+-- "21–24: as 1–4, for the fresh image", "24 by 61 to 64"
+numbers-of-fresh : (map (λ r. refusal.ofFresh r .number) (refusal.imageSize ∷ refusal.header ∷ refusal.offsets ∷ []) ≡ 21 ∷ 22 ∷ 23 ∷ [])
+    × (map (λ r. refusal.ofFresh r .number) faults ≡ 61 ∷ 62 ∷ 63 ∷ 64 ∷ [])
+numbers-of-fresh = (refl, refl)
 
--- "Checks go in the row order": 1 before 2 (rule 3 in 5 bytes), 2 before 3 (65 programs in 6 bytes), 3 before 4 (a byte too many after operation 9)
+-- "Checks go in the row order": 1 before 2 (rule 3 in 5 bytes), 2 before 3 (65 programs in 6 bytes), 3 before 41 (a byte too many after operation 9)
 abbrev bad : List ℕ
 bad = image 0 (program (instruction 9 0 0 0 ∷ []) ∷ [])
 
@@ -191,12 +199,12 @@ handed-back : (map (programOf two) (0 ∷ 1 ∷ []) ≡ (8 ∷ 7 ∷ 0 ∷ 0 ∷
 unfolding opened
 handed-back = (refl, refl)
 
--- "checks 1 to 4 and 8": program 2 of images that are refused for 1, 2, 3, 4 and have no program 2 either; then programs 1, 2, 3 of the two.
+-- "checks 1 to 4 and 8": program 2 of images that are refused for 1, 2, 3, 41 and have no program 2 either; then programs 1, 2, 3 of the two.
 -- "8: program number n or more"
 abbrev asked : {A : Type 0} → (List ℕ → ℕ → A) → List A
 asked f = map (λ i. f i 2) (take 5 empty ∷ image 3 [] ∷ (two ++ (0 ∷ [])) ∷ bad ∷ []) ++ map (f two) (1 ∷ 2 ∷ 3 ∷ [])
 
-program-refusals : asked programRefusal ≡ 1 ∷ 2 ∷ 3 ∷ 4 ∷ 0 ∷ 8 ∷ 8 ∷ []
+program-refusals : asked programRefusal ≡ 1 ∷ 2 ∷ 3 ∷ 41 ∷ 0 ∷ 8 ∷ 8 ∷ []
 unfolding opened
 program-refusals = refl
 
@@ -216,6 +224,6 @@ unfolding opened
 program-says i r e s =
     (s .part .bytes-are ∙ ap (λ (x : List ℕ). programOf x 1) e, s .part .lies-at ∙ ap (λ (x : List ℕ). (ptr i .0, startOf x 1 + ptr i .1)) e)
 
-program-refusal-says : ProgramRefusalSays two 1 refusal.none × ProgramRefusalSays two 2 refusal.number × ProgramRefusalSays bad 0 refusal.instruction
+program-refusal-says : ProgramRefusalSays two 1 refusal.none × ProgramRefusalSays two 2 refusal.number × ProgramRefusalSays bad 0 refusal.operation
 unfolding opened
 program-refusal-says = (record { answer = refl }, record { answer = refl }, record { answer = refl })

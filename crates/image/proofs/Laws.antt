@@ -1,11 +1,11 @@
 -- Laws of the image's definitions: callers cite these and do not unfold. Assumes nothing.
-use mathlib.Core.Path.{_≡_, refl}
-use mathlib.Core.Bool.{Bool, true, false, _&&_, cond}
+use mathlib.Core.Path.{_≡_, refl, sym, ap, _∙_}
+use mathlib.Core.Bool.{true, false, _&&_}
 use mathlib.Core.List.{List, []}
-use Prim.Native.Nat.{ℕ, zero, suc, zero-le, _+_, _-_, _%_, _≤_, _<_}
+use Prim.Native.Nat.{ℕ, zero, suc, _+_, _-_, _%_, _≤_, _<_}
 use native.Mathlib.Nat.{add-zero, le-refl, le-trans, le-of-lt}
 use native.Mathlib.Omega.{arith}
-use borrow.Author.Tests.{leb-true, ltb-true, eqb-true, lt-ltb, le-ltb}
+use borrow.Author.Tests.{leb-true, ltb-true, eqb-true, eq-eqb}
 use lib.ListN.{length}
 use lib.Dec.{leb, ltb, eqb}
 use Rattle.base.specs.Words.{every}
@@ -15,12 +15,14 @@ use Rattle.base.proofs.Parts.{words-length}
 use Rattle.image.specs.Limits.{maxPrograms, instructionBytes, maxProgramBytes, headBytes}
 use Rattle.image.specs.declared.Refusal.{Refusal}
 use Rattle.image.specs.Refusals as refusal
-use Rattle.image.specs.Refusals.{check}
-use Rattle.image.specs.Instruction.{instructionsOf, placeGood, programGood}
+use Rattle.image.specs.Refusals.{none, passes, ofFresh, saysWhere, WellPlaced, placed}
+use Rattle.image.specs.Instruction.{instructionsOf, faultAt, placeGood, programGood}
 use Rattle.image.specs.Image.{byteAt, countOf, ruleByte, headerOf, offsetOf, bytesOf, partOf, Lies, sizeGood, headerGood}
-use Rattle.image.specs.Image.{holdsOffsets, firstGood, rises, whole, short, extentGood, extentsGood, lastGood, offsetsGood, codeGood}
-use Rattle.image.specs.Image.{refusalOf, programRefusalOf, programOf, startOf}
-use Rattle.image.proofs.Refusing.{goes-on, none-fails, none-after, unless-refused, unless-done}
+use Rattle.image.specs.Image.{holdsOffsets, firstGood, rises, whole, short, extentGood, extentsGood, lastGood, offsetsGood, codeGood, codeRefusal}
+use Rattle.image.specs.Image.{refusalOf, freshRefusalOf, programRefusalOf, programOf, startOf}
+use Rattle.image.proofs.Refusing.{check-either, goes-on, none-fails, none-after, unless-refused, unless-done}
+use Rattle.image.proofs.Places.{plain-well}
+use Rattle.image.proofs.Faults.{program-found, code-passes, code-none, code-found, code-number, code-well}
 
 -- ---- a program that lies in the image has as many bytes as its offsets say, and so at most 32 instructions of 4
 
@@ -74,22 +76,28 @@ module _ (image : List ℕ) (good : offsetsGood image ≡ true) where
   pub part-whole : (p : ℕ) → p < countOf image → length (partOf image p) % instructionBytes ≡ 0
   part-whole p l = rw (lies-length image p (lies p l)) (extent p l .1)
 
--- ---- check 4: a program is good where each of its instructions is, and a bad one makes the check fail
+-- ---- check 4: the first bad instruction, with its fault and its place
+
+pub no-code-refusal : (image : List ℕ) (p : ℕ) → p ≡ countOf image → every p (λ q. programGood (partOf image q)) ≡ true → none ≡ codeRefusal image
+unfolding codeRefusal
+no-code-refusal image p e h = code-none (partOf image) (countOf image) (rw e at h)
+
+pub code-refused : (image : List ℕ) (p i : ℕ) → p < countOf image → every p (λ q. programGood (partOf image q)) ≡ true → i < instructionsOf (partOf image p)
+    → every i (λ k. placeGood (partOf image p) k) ≡ true → placeGood (partOf image p) i ≡ false
+    → placed p i (faultAt (partOf image p) i) ≡ codeRefusal image
+unfolding codeRefusal programGood
+code-refused image p i l before k good bad =
+    program-found p (partOf image p) i k good bad
+    ∙ code-found (partOf image) (countOf image) p l before (every-false (instructionsOf (partOf image p)) (λ k. placeGood (partOf image p) k) i k bad)
 
 pub program-good : (part : List ℕ) (i : ℕ) → i ≡ instructionsOf part → every i (λ k. placeGood part k) ≡ true → programGood part ≡ true
 unfolding programGood
 program-good part i e h = rw e at h
 
-pub code-bad : (image : List ℕ) (p i : ℕ) → p < countOf image → i < instructionsOf (partOf image p) → placeGood (partOf image p) i ≡ false
-    → codeGood image ≡ false
-unfolding codeGood programGood
-code-bad image p i l k h =
-    every-false (countOf image) (λ q. programGood (partOf image q)) p l
-    (every-false (instructionsOf (partOf image p)) (λ k. placeGood (partOf image p) k) i k h)
-
-pub code-good : (image : List ℕ) (p : ℕ) → p ≡ countOf image → every p (λ q. programGood (partOf image q)) ≡ true → codeGood image ≡ true
-unfolding codeGood
-code-good image p e h = rw e at h
+-- it passes exactly where every instruction is good
+pub code-good-is : (image : List ℕ) → passes (codeRefusal image) ≡ codeGood image
+unfolding codeRefusal codeGood
+code-good-is image = code-passes (partOf image) (countOf image)
 
 pub code-at : (image : List ℕ) → codeGood image ≡ true → (p : ℕ) → p < countOf image → (i : ℕ) → i < instructionsOf (partOf image p)
     → placeGood (partOf image p) i ≡ true
@@ -112,25 +120,45 @@ accepted image e =
     let a = none-fails (sizeGood image) refusal.imageSize _ (λ z. omega arith) e in
     let b = none-fails (headerGood (headerOf image)) refusal.header _ (λ z. omega arith) (a .1) in
     let c = none-fails (offsetsGood image) refusal.offsets _ (λ z. omega arith) (b .1) in
-    let d = none-fails (codeGood image) refusal.instruction _ (λ z. omega arith) (c .1) in
-    record { size = a .0; header = b .0; offsets = c .0; code = d .0 }
+    record { size = a .0; header = b .0; offsets = c .0; code = sym (code-good-is image) ∙ eq-eqb _ _ (c .1) }
 
-pub accepted-is : (image : List ℕ) → Accepted image → refusal.none ≡ refusalOf image
-unfolding refusalOf
-accepted-is image a = goes-on _ (a .size) (goes-on _ (a .header) (goes-on _ (a .offsets) (goes-on _ (a .code) refl)))
+pub accepted-is : (image : List ℕ) → Accepted image → none ≡ refusalOf image
+unfolding refusalOf codeGood
+accepted-is image a = goes-on _ (a .size) (goes-on _ (a .header) (goes-on _ (a .offsets) (no-code-refusal image (countOf image) refl (a .code))))
 
--- it is one of four
-pub refusal-few : (image : List ℕ) → refusalOf image .number ≤ refusal.instruction .number
-unfolding refusalOf check
-refusal-few image = go (sizeGood image) (headerGood (headerOf image)) (offsetsGood image) (codeGood image)
-  where
-    go : (a b c d : Bool)
-        → check a refusal.imageSize (check b refusal.header (check c refusal.offsets (check d refusal.instruction refusal.none))) .number ≤ 4
-    go true true true true = omega arith
-    go true true true false = omega arith
-    go true true false d = omega arith
-    go true false c d = omega arith
-    go false b c d = omega arith
+-- a fact of the numbers 1 to 3, 41 to 44 and 0 is one of its number
+pub refusal-number : (P : ℕ → Type 0) → P 1 → P 2 → P 3 → P 41 → P 42 → P 43 → P 44 → P 0 → (image : List ℕ) → P (refusalOf image .number)
+unfolding refusalOf codeRefusal
+refusal-number P size header offsets operation register unused skip start image =
+    let Q : Refusal → Type 0 = λ r. P (r .number) in
+    check-either Q (sizeGood image) size
+    (check-either Q (headerGood (headerOf image)) header
+    (check-either Q (offsetsGood image) offsets
+    (code-number (partOf image) P operation register unused skip start (countOf image))))
+
+-- which is at most 44
+pub refusal-few : (image : List ℕ) → refusalOf image .number ≤ 44
+refusal-few = refusal-number (λ n. n ≤ 44) (omega arith) (omega arith) (omega arith) (omega arith) (omega arith) (omega arith) (omega arith) (omega arith)
+
+-- its place is meant
+pub refusal-well : (image : List ℕ) → WellPlaced (refusalOf image)
+unfolding refusalOf codeRefusal
+refusal-well image =
+    check-either WellPlaced (sizeGood image) (plain-well 1)
+    (check-either WellPlaced (headerGood (headerOf image)) (plain-well 2)
+    (check-either WellPlaced (offsetsGood image) (plain-well 3)
+    (code-well (partOf image) (countOf image))))
+
+pub fresh-well : (image : List ℕ) → WellPlaced (freshRefusalOf image)
+unfolding freshRefusalOf saysWhere
+fresh-well image =
+    check-either WellPlaced _
+    (record {
+      nowhere = λ e.
+          ap ofFresh (refusal-well image .nowhere
+          (refusal-number (λ n. saysWhere (20 + n) ≡ false → saysWhere n ≡ false) (λ f. refl) (λ f. refl) (λ f. refl) (λ f. f) (λ f. f) (λ f. f) (λ f. f) (λ f. refl) image e));
+    })
+    (plain-well 0)
 
 pub few-programs : (image : List ℕ) → headerGood (headerOf image) ≡ true → countOf image ≤ maxPrograms
 unfolding headerGood

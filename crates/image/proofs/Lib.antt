@@ -1,5 +1,11 @@
-pub mod Laws
 pub mod Refusing
+pub mod Places
+pub mod Bytes
+pub mod Faults
+pub mod Laws
+pub mod There
+pub mod Four
 pub mod Unique
 pub mod Cases
 pub mod InstructionCases
+pub mod PlaceCases

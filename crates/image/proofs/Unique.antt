@@ -18,6 +18,10 @@ use Rattle.image.proofs.part_of.Kinds as part-of-kinds
 use Rattle.image.proofs.part_of.Reads as part-of
 use Rattle.image.proofs.image_refusal.Kinds as image-refusal-kinds
 use Rattle.image.proofs.image_refusal.Reads as image-refusal
+use Rattle.image.proofs.program_fault.Kinds as program-fault-kinds
+use Rattle.image.proofs.program_fault.Reads as program-fault
+use Rattle.image.proofs.instruction.wrong_byte.Kinds as wrong-byte-kinds
+use Rattle.image.proofs.instruction.wrong_byte.Reads as wrong-byte
 use Rattle.image.proofs.fresh_refusal.Kinds as fresh-refusal-kinds
 use Rattle.image.proofs.fresh_refusal.Reads as fresh-refusal
 use Rattle.image.proofs.program_refusal.Kinds as program-refusal-kinds
@@ -51,6 +55,12 @@ part-of-unique κs a x y s t p q = cc
 
 pub image-refusal-unique : Unique 1 image-refusal-kinds.ps image-refusal-kinds.r (λ κs x s. x) image-refusal.Post
 image-refusal-unique κs a x y s t p q = p ∙ sym q
+
+pub program-fault-unique : Unique 1 program-fault-kinds.ps program-fault-kinds.r (λ κs x s. x) program-fault.Post
+program-fault-unique κs a x y s t p q = p ∙ sym q
+
+pub wrong-byte-unique : Unique 1 wrong-byte-kinds.ps wrong-byte-kinds.r (λ κs x s. x) wrong-byte.Post
+wrong-byte-unique κs a x y s t p q = p ∙ sym q
 
 pub fresh-refusal-unique : Unique 1 fresh-refusal-kinds.ps fresh-refusal-kinds.r (λ κs x s. x) fresh-refusal.Post
 fresh-refusal-unique κs a x y s t p q = p ∙ sym q

@@ -13,7 +13,7 @@ use Rattle.image.specs.Limits.{maxPrograms, instructionBytes, maxProgram
 use Rattle.image.specs.declared.Refusal.{Refusal}
 use Rattle.image.specs.Refusals as refusal
 use Rattle.image.specs.Refusals.{check, passes, after, unless}
-use Rattle.image.specs.Instruction.{programGood}
+use Rattle.image.specs.Instruction.{programGood, codeFault}
 
 -- the byte at a place, 0 past the end
 abbrev pub byteAt : List ℕ → ℕ → ℕ
@@ -92,20 +92,22 @@ lastGood image = eqb (offsetOf image (countOf image)) (length image)
 unfoldable pub offsetsGood : List ℕ → Bool
 offsetsGood image = holdsOffsets image && firstGood image && extentsGood image && lastGood image
 
--- Check 4, "some instruction is bad".
+-- Check 4, "some instruction is bad"; document 02, ask 2: which one, and what is wrong with it.
 unfoldable pub codeGood : List ℕ → Bool
 codeGood image = every (countOf image) (λ p. programGood (partOf image p))
 
--- The refusal of an image: of the first of the checks 1 to 4 that fails.
+unfoldable pub codeRefusal : List ℕ → Refusal
+codeRefusal image = codeFault (countOf image) (partOf image)
+
+-- The refusal of an image: of the first of the checks 1 to 4 that fails, where 4 is one of 41 to 44.
 unfoldable pub refusalOf : List ℕ → Refusal
 refusalOf image =
     check (sizeGood image) refusal.imageSize
     (check (headerGood (headerOf image)) refusal.header
     (check (offsetsGood image) refusal.offsets
-    (check (codeGood image) refusal.instruction
-    refusal.none)))
+    (codeRefusal image)))
 
--- "21–24: as 1–4, for the fresh image"
+-- "21–24: as 1–4, for the fresh image", "24 by 61 to 64"
 unfoldable pub freshRefusalOf : List ℕ → Refusal
 freshRefusalOf image = check (passes (refusalOf image)) (refusal.ofFresh (refusalOf image)) refusal.none
 

@@ -1,7 +1,9 @@
 pub mod Limits
 pub mod Refusals
 pub mod Instruction
+pub mod Bits
 pub mod Image
+pub mod Four
 pub mod Opened
 pub mod Assembler
 pub mod Bench

@@ -3,13 +3,16 @@ ghost use mathlib.Core.Path.{_≡_};
 ghost use mathlib.Core.Bool.{true};
 ghost use Prim.Native.Nat.{_+_, _*_, _<_, _≤_};
 ghost use lib.ListN.{length};
-ghost use Rattle.image.specs.Limits.{headBytes};
-ghost use Rattle.image.specs.Instruction.{programGood};
+ghost use Rattle.image.specs.Limits.{maxProgramBytes, headBytes};
+ghost use Rattle.image.specs.Instruction.{programFault};
 ghost use Rattle.image.specs.Image.{byteAt, countOf, ruleByte, headerOf, secondRule, offsetOf, partOf, Lies, Part, startOf};
-ghost use Rattle.image.specs.Image.{sizeGood, headerGood, extentGood, extentsGood, offsetsGood, codeGood, refusalOf, freshRefusalOf};
+ghost use Rattle.image.specs.Image.{sizeGood, headerGood, extentGood, extentsGood, offsetsGood, codeRefusal, refusalOf, freshRefusalOf};
 ghost use Rattle.image.specs.Image.{ProgramSays, ProgramRefusalSays};
 
 mod instruction;
+mod refusals;
+
+pub use instruction::wrong_byte;
 
 // An image's header: how many programs it has, its rule byte and the byte that is 0.
 pub struct Image {
@@ -61,46 +64,12 @@ impl Image {
     }
 }
 
-// A refusal, by its number in document 01; the refusals are named here and nowhere else.
+// A refusal: its number in documents 01 and 02, and of a bad instruction its program and its number there, otherwise 0 and 0.
+#[repr(C)]
 pub struct Refusal {
     pub number: u32,
-}
-
-impl Refusal {
-    pub const NONE: Refusal = Refusal { number: 0 };
-
-    pub const IMAGE_SIZE: Refusal = Refusal { number: 1 };
-
-    pub const HEADER: Refusal = Refusal { number: 2 };
-
-    pub const OFFSETS: Refusal = Refusal { number: 3 };
-
-    pub const INSTRUCTION: Refusal = Refusal { number: 4 };
-
-    pub const TABLE_SIZE: Refusal = Refusal { number: 5 };
-
-    pub const AREA_SIZE: Refusal = Refusal { number: 6 };
-
-    pub const AREA: Refusal = Refusal { number: 7 };
-
-    pub const NUMBER: Refusal = Refusal { number: 8 };
-
-    pub const STATE: Refusal = Refusal { number: 9 };
-
-    pub const TOO_SHORT: Refusal = Refusal { number: 10 };
-
-    pub const TOO_MANY: Refusal = Refusal { number: 11 };
-
-    pub const NO_ORDER: Refusal = Refusal { number: 12 };
-
-    pub const NOT_CARRIED: Refusal = Refusal { number: 13 };
-
-    pub const REASON: Refusal = Refusal { number: 15 };
-
-    pub const LINE: Refusal = Refusal { number: 51 };
-
-    // What a refusal of 1 to 4 adds to its number where the fresh image earns it.
-    pub const FRESH: u32 = 20;
+    pub program: u32,
+    pub instruction: u32,
 }
 
 // The byte at a place, 0 past the end.
@@ -213,36 +182,37 @@ pub fn part_of(bytes: &[u8], p: usize) -> &[u8]
     &bytes[start..end]
 }
 
-// Check 4: it stops at the first bad instruction of the first bad program.
-fn code_good(bytes: &[u8], n: usize) -> bool
+// Check 4: it stops at the first bad instruction of the first bad program, and hands out what is wrong with it.
+fn code_refusal(bytes: &[u8], n: usize) -> Refusal
     requires { ⌜ (offsetsGood (now bytes) ≡ true) × (n ≡ countOf (now bytes)) × (n < 65536) ⌝ }
-    ensures { λ r. ⌜ r ≡ codeGood (now (bytes .entry)) ⌝ }
+    ensures { λ r. ⌜ r ≡ codeRefusal (now (bytes .entry)) ⌝ }
 {
-    let mut good = true;
+    let mut found = Refusal::NONE;
     'programs: for p in 0..n {
         let part = part_of(bytes, p);
         let m = part.len() / Image::INSTRUCTION_BYTES;
         for i in 0..m {
             if !instruction::place_good(part, i) {
-                good = false;
+                found = instruction::refused_at(part, p, i);
                 break 'programs;
             }
         }
     }
-    good
+    found
 }
 
-// Whether every instruction of a program is good.
-pub fn program_good(program: &[u8]) -> bool
-    ensures { λ r. ⌜ r ≡ programGood (now (program .entry)) ⌝ }
+// The first bad instruction of program p, with what is wrong with it.
+pub fn program_fault(program: &[u8], p: usize) -> Refusal
+    requires { ⌜ (length (now program) ≤ maxProgramBytes) × (p < 65536) ⌝ }
+    ensures { λ r. ⌜ r ≡ programFault p (now (program .entry)) ⌝ }
 {
     let m = program.len() / Image::INSTRUCTION_BYTES;
     for i in 0..m {
         if !instruction::place_good(program, i) {
-            return false;
+            return instruction::refused_at(program, p, i);
         }
     }
-    true
+    Refusal::NONE
 }
 
 // Check 1.
@@ -270,13 +240,10 @@ pub fn image_refusal(bytes: &[u8]) -> Refusal
     if !offsets_good(bytes, n) {
         return Refusal::OFFSETS;
     }
-    if !code_good(bytes, n) {
-        return Refusal::INSTRUCTION;
-    }
-    Refusal::NONE
+    code_refusal(bytes, n)
 }
 
-// The refusal of a fresh image: checks 21 to 24.
+// The refusal of a fresh image: checks 21 to 23 and 61 to 64.
 pub fn fresh_refusal(bytes: &[u8]) -> Refusal
     ensures { λ r. ⌜ r ≡ freshRefusalOf (now (bytes .entry)) ⌝ }
 {
@@ -286,6 +253,8 @@ pub fn fresh_refusal(bytes: &[u8]) -> Refusal
     }
     Refusal {
         number: Refusal::FRESH + refused.number,
+        program: refused.program,
+        instruction: refused.instruction,
     }
 }
 

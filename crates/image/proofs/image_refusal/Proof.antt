@@ -1,5 +1,5 @@
--- `image_refusal` meets its contract: at each return the checks that led there have passed, and the last of them fails. Assumes nothing.
-use mathlib.Core.Path.{_≡_, ap, refl, sym, _∙_}
+-- `image_refusal` meets its contract: at each return the checks that led there have passed, and the last of them answers. Assumes nothing.
+use mathlib.Core.Path.{_≡_, ap, sym, _∙_}
 use mathlib.Core.Bool.{true}
 use mathlib.Core.List.{List}
 use Prim.Native.Nat.{ℕ}
@@ -9,7 +9,7 @@ use borrow.Author.Tests.{not-false}
 use denote.Ref.{now}
 use Rattle.image.specs.declared.Image.{Image}
 use Rattle.image.specs.Image.{countOf, headerOf, sizeGood, headerGood, offsetsGood, refusalOf}
-use Rattle.image.proofs.Refusing.{goes-on, refuses, accepts}
+use Rattle.image.proofs.Refusing.{goes-on, refuses}
 use Rattle.image.proofs.image_refusal.Statement.{statement}
 use Rattle.image.proofs.image_refusal.Tie as tie
 
@@ -55,25 +55,14 @@ returns-3 c =
     let h = c .before .before .before in
     goes-on _ (size-is-good (sized h)) (goes-on _ (header-is-good h) (refuses _ (c .before .offsets-good .ensures) (c .if3 .taken)))
 
-code-good-requires : tie.Need-code-good-requires
-code-good-requires c κs = (offsets-are-good c, count-is (headed c), omega arith)
+code-refusal-requires : tie.Need-code-refusal-requires
+code-refusal-requires c κs = (offsets-are-good c, count-is (headed c), omega arith)
 
--- where checks 1 to 3 have passed
 returns-4 : tie.Need-returns-4
 unfolding refusalOf
 returns-4 c =
-    let o = c .before .before in
-    let h = headed o in
-    goes-on _ (size-is-good (sized h))
-    (goes-on _ (header-is-good h) (goes-on _ (offsets-are-good o) (refuses _ (c .before .code-good .ensures) (c .if4 .taken))))
-
-returns-5 : tie.Need-returns-5
-unfolding refusalOf
-returns-5 c =
-    let o = c .before .before in
-    let h = headed o in
-    goes-on _ (size-is-good (sized h))
-    (goes-on _ (header-is-good h) (goes-on _ (offsets-are-good o) (accepts _ (c .before .code-good .ensures) (c .if4 .left) refl)))
+    let h = headed (c .before) in
+    goes-on _ (size-is-good (sized h)) (goes-on _ (header-is-good h) (goes-on _ (offsets-are-good (c .before)) (c .code-refusal .ensures)))
 
 pub image-refusal-spec : {M : Type 1} → statement M
 image-refusal-spec =
@@ -87,6 +76,5 @@ image-refusal-spec =
     (λ c. search needs)
     offsets-good-requires
     returns-3
-    code-good-requires
-    returns-4
-    returns-5)
+    code-refusal-requires
+    returns-4)
