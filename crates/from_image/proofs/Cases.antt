@@ -5,7 +5,7 @@ use mathlib.Core.Path.{_≡_, refl}
 use mathlib.Core.List.{List, [], _∷_, _++_, map}
 use lib.ListN.{length, replicate}
 use Rattle.text.specs.Ascii.{ascii}
-use Rattle.image.specs.Refusals.{refusing}
+use Rattle.image.specs.Refusals.{refusingAt, refusing}
 use Rattle.image.specs.Image.{refusalOf}
 use Rattle.image.specs.Assembler.{image, program, fields, end, set, load, store, add, sub, skipless, skipequal, reject}
 use Rattle.sheet.specs.declared.Written.the-variants.{Refused, Length}
@@ -40,8 +40,8 @@ exact = (refl, refl)
 
 -- "From an image: 1 to 4, then 10": five bytes; a count of 65; a first offset that is not 8; a register over 7; and one byte short
 refused : map (λ bytes. sheetOfAnswer bytes (room 6))
-    (room 5 ∷ fields 65 1 0 (0 ∷ []) [] ∷ fields 1 1 0 (9 ∷ 9 ∷ []) [] ∷ image 1 (program (set 8 0 ∷ []) ∷ []) ∷ image 1 [] ∷ [])
-    ≡ Refused (refusing 1) ∷ Refused (refusing 2) ∷ Refused (refusing 3) ∷ Refused (refusing 4) ∷ Refused (refusing 10) ∷ []
+    (room 5 ∷ fields 65 1 0 (0 ∷ []) [] ∷ fields 1 1 0 (9 ∷ 9 ∷ []) [] ∷ image 1 (program (set 0 0 ∷ set 8 0 ∷ []) ∷ []) ∷ image 1 [] ∷ [])
+    ≡ Refused (refusing 1) ∷ Refused (refusing 2) ∷ Refused (refusing 3) ∷ Refused (refusingAt 42 0 1) ∷ Refused (refusing 10) ∷ []
 unfolding opened
 refused = refl
 

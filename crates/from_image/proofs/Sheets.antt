@@ -1,20 +1,18 @@
 -- Laws of the lines of a program and of the programs: they are texts one behind the other, which the code writes one a turn. And each instruction of a good
 -- program has a name. Assumes nothing.
 use mathlib.Core.Path.{_≡_, refl, ap, _∙_}
-use mathlib.Core.Logic.{_⊎_, inl, inr}
-use mathlib.Core.Bool.{true, false}
+use mathlib.Core.Bool.{true}
 use mathlib.Core.List.{List, [], _∷_, _++_, append-assoc, append-nil}
 use Prim.Native.Nat.{ℕ, zero, suc, _+_, _<_}
 use native.Mathlib.Omega.{arith}
-use lib.Dec.{eqb, ltb}
 use lib.ListN.{length, length-append}
-use borrow.Author.Tests.{ltb-true, ltb-false, ne-eqb}
-use Rattle.base.proofs.Bools.{known, clash}
+use borrow.Author.Tests.{ltb-true}
 use Rattle.base.proofs.Numbers.{every-at}
 use Rattle.text.specs.Decimal.{decimal}
 use Rattle.text.specs.Filled.{texts}
-use Rattle.image.specs.Instruction.{byteOf, instructionsOf, instructionGood, placeGood, programGood}
+use Rattle.image.specs.Instruction.{rows, known, byteOf, instructionsOf, programGood}
 use Rattle.image.specs.Image.{countOf, ruleByte, partOf, codeGood, refusalOf}
+use Rattle.image.proofs.Faults.{good-at}
 use Rattle.image.proofs.Laws.{accepted, few-programs, lies, part-short}
 use Rattle.writer.specs.Picked.{pick, picked, allOf}
 use Rattle.sheet.specs.declared.Line.the-variants as line
@@ -59,25 +57,9 @@ programs-texts image (suc n) =
 
 -- ---- an instruction that is good has a name
 
-pub good-named : (op a b c i m : ℕ) → instructionGood op a b c i m ≡ true → op < operations
-unfolding instructionGood
-good-named op a b c i m h = go (known (ltb op operations))
-  where
-    go : (ltb op operations ≡ true) ⊎ (ltb op operations ≡ false) → op < operations
-    go (inl e) = ltb-true op operations e
-    go (inr e) =
-        let l = ltb-false op operations e in
-        let other : (k : ℕ) → k < operations → eqb op k ≡ false = λ k below. ne-eqb op k (λ z. omega arith) in
-        clash h
-        (rw (other 0 (omega arith), other 1 (omega arith), other 2 (omega arith), other 3 (omega arith), other 4 (omega arith), other 5 (omega arith), other 6 (omega arith), other 7 (omega arith), other 8 (omega arith)))
-
-pub place-good : (program : List ℕ) → programGood program ≡ true → (i : ℕ) → i < instructionsOf program → placeGood program i ≡ true
-unfolding programGood
-place-good program good i l = every-at (instructionsOf program) (λ k. placeGood program k) good i l
-
 pub named-at : (program : List ℕ) → programGood program ≡ true → (i : ℕ) → i < instructionsOf program → byteOf program i 0 < operations
-unfolding placeGood
-named-at program good i l = good-named _ _ _ _ _ _ (place-good program good i l)
+unfolding known rows
+named-at program good i l = ltb-true (byteOf program i 0) operations (good-at program good i l .operation)
 
 -- ---- an image that is not refused
 
