@@ -128,13 +128,13 @@ none-of-none = refl
 
 -- ---- "Checks go in the row order": each call on something that breaks two neighbours
 
--- 1 to 4, each with a table of 0 cells, which breaks 5
+-- 1 to 3 and 41, each with a table of 0 cells, which breaks 5
 abbrev badImages : List (List ℕ)
 badImages = take 5 empty ∷ image 3 [] ∷ (two ++ (0 ∷ [])) ∷ image 0 (program (instruction 9 0 0 0 ∷ []) ∷ []) ∷ []
 
-images-first : (map (λ i. atOpening i [] []) badImages ≡ 1 ∷ 2 ∷ 3 ∷ 4 ∷ [])
-    × (map (λ i. atCall i [] []) badImages ≡ 1 ∷ 2 ∷ 3 ∷ 4 ∷ [])
-    × (map (λ i. atEnd i [] []) badImages ≡ 1 ∷ 2 ∷ 3 ∷ 4 ∷ [])
+images-first : (map (λ i. atOpening i [] []) badImages ≡ 1 ∷ 2 ∷ 3 ∷ 41 ∷ [])
+    × (map (λ i. atCall i [] []) badImages ≡ 1 ∷ 2 ∷ 3 ∷ 41 ∷ [])
+    × (map (λ i. atEnd i [] []) badImages ≡ 1 ∷ 2 ∷ 3 ∷ 41 ∷ [])
 unfolding opened
 images-first = (refl, refl, refl)
 

@@ -7,15 +7,16 @@ use native.Mathlib.Omega.{arith}
 use lib.ListN.{length, getD}
 use lib.Dec.{ltb, leb}
 use borrow.Author.Tests.{lt-ltb, le-leb, eq-eqb, ltb-true, leb-true, eqb-true}
-use Rattle.base.specs.Words.{has}
 use Rattle.base.proofs.Bools.{and-both, both-and}
 use Rattle.base.proofs.Numbers.{every-at, every-from}
 use Rattle.base.proofs.Members.{has-getD}
 use Rattle.image.specs.Limits.{maxPrograms, minCells, maxCells}
 use Rattle.image.specs.Refusals as refusal
+use Rattle.image.specs.Refusals.{WellPlaced}
 use Rattle.image.specs.Image.{countOf, refusalOf}
-use Rattle.image.proofs.Laws.{accepted, few-programs}
-use Rattle.image.proofs.Refusing.{goes-on, none-fails, none-after, first-passes, number-of}
+use Rattle.image.proofs.Laws.{accepted, refusal-well, few-programs}
+use Rattle.image.proofs.Places.{plain-well}
+use Rattle.image.proofs.Refusing.{check-either, goes-on, none-fails, none-after, first-passes, number-of}
 use Rattle.slot.specs.declared.ListKind.{ListKind}
 use Rattle.slot.specs.declared.ListKind.the-variants.{Reads, Stores}
 use Rattle.slot.specs.States.{lastState}
@@ -51,6 +52,13 @@ module _ (image t a : List ℕ) where
       let z = none-fails (sizeIs (length t) (countOf image) a) refusal.areaSize _ (λ z. omega arith) (s .1) in
       let c = and-both (leb minCells (length t)) (leb (length t) maxCells) (s .0) in
       record { accepted = w .0; cells-some = leb-true _ _ (c .0); cells-few = leb-true _ _ (c .1); sized = eqb-true _ _ (z .0) }
+
+  -- its place is meant
+  pub open-well : WellPlaced (openRefusal image t a)
+  unfolding openRefusal roomRefusal
+  open-well =
+      check-either WellPlaced _ (refusal-well image)
+      (check-either WellPlaced (tableGood t) (plain-well 5) (check-either WellPlaced (sizeIs (length t) (countOf image) a) (plain-well 6) (plain-well 0)))
 
   -- no refusal is exactly what `Checked` says
   pub checked : callRefusal image t a .number ≡ 0 → Checked image t a

@@ -4,7 +4,8 @@ use Prim.Native.Nat.{ℕ}
 use mathlib.Core.Path.{_≡_, refl}
 use mathlib.Core.List.{List, [], _∷_, _++_, map}
 use lib.ListN.{take, set, replicate}
-use Rattle.image.specs.Refusals.{Counted, refusing}
+use Rattle.image.specs.declared.Refusal.{Refusal}
+use Rattle.image.specs.Refusals.{refusingAt, refusing, Counted, noCount, counted}
 use Rattle.image.specs.Assembler as assembler
 use Rattle.image.specs.Assembler.{program, joined, image, store, reject, instruction}
 use Rattle.slot.specs.Log.{empty, layout}
@@ -39,10 +40,13 @@ abbrev called : (image table area fresh out : List ℕ) → Counted × List ℕ
 called image t a fresh out = (numbersOfNext (nextAnswer image t a fresh out), nextOut image t a fresh out)
 
 abbrev done : ℕ → List ℕ → Counted × List ℕ
-done bytes out = (record { refusal = 0; count = bytes }, out)
+done bytes out = (counted bytes, out)
+
+abbrev refusedWith : Refusal → List ℕ → Counted × List ℕ
+refusedWith refusal out = (noCount refusal, out)
 
 abbrev refused : ℕ → List ℕ → Counted × List ℕ
-refused refusal out = (record { refusal = refusal; count = 0 }, out)
+refused number = refusedWith (refusing number)
 
 -- the call for the batch with its programs in these states, and this fresh image; the output has 40 bytes that are 9
 abbrev nines : ℕ → List ℕ
@@ -155,10 +159,10 @@ states-0-1 : map (λ s. next (4 ∷ s ∷ 4 ∷ []) (image 0 [])) (0 ∷ 1 ∷ 2
 unfolding opened
 states-0-1 = refl
 
--- "Checks go .. for the next image: 1 to 7, 9, 21 to 24, 11, 10.", each on a call that breaks all that come after it too, as far as they can be broken
+-- "Checks go .. for the next image: 1 to 7, 9, 21 to 24, 11, 10.", where 4 is 41 and 24 is 61, each with its place; each on a call that breaks all that come after it too, as far as they can be broken
 -- together. "A refusal returns its number, 0 for every other result, and changes no lent memory."
 abbrev spoilt : ℕ → ℕ → List ℕ
-spoilt rule k = image rule (programs k ++ (program (instruction 9 0 0 0 ∷ []) ∷ []))
+spoilt rule k = image rule (programs k ++ (program (store 0 0 ∷ instruction 9 0 0 0 ∷ []) ∷ []))
 
 -- fresh images: of five bytes; of a rule over 2; of a byte too many; with a bad instruction; with nothing wrong, but 64 programs
 abbrev fresh-1 : List ℕ
@@ -201,6 +205,9 @@ row-order : called (take 5 (spoilt 3 2)) [] overmarked fresh-1 (9 ∷ [])
     ∷ called batch (5 ∷ []) settled fresh-64 (9 ∷ [])
     ∷ called batch (5 ∷ []) settled (image 2 []) (9 ∷ [])
     ∷ []
-    ≡ map (λ r. refused r (9 ∷ [])) (1 ∷ 2 ∷ 3 ∷ 4 ∷ 5 ∷ 6 ∷ 7 ∷ 9 ∷ 21 ∷ 22 ∷ 23 ∷ 24 ∷ 11 ∷ 10 ∷ [])
+    ≡ map (λ r. refusedWith r (9 ∷ [])) (
+    map refusing (1 ∷ 2 ∷ 3 ∷ [])
+    ++ (refusingAt 41 2 1 ∷ map refusing (5 ∷ 6 ∷ 7 ∷ 9 ∷ 21 ∷ 22 ∷ 23 ∷ []))
+    ++ (refusingAt 61 63 1 ∷ refusing 11 ∷ refusing 10 ∷ []))
 unfolding opened
 row-order = refl

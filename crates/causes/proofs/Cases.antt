@@ -86,10 +86,10 @@ own-mark = refl
 -- ---- the numbers of an answer: "reasons 1 and 2 leave the war pair 0"
 
 numbers : map numbersOfWhy (Refused (refusing 13) ∷ Waw (at 7 3) ∷ Raw (at 8 4) ∷ RawWithWar (at 9 5) (at 6 2) ∷ [])
-    ≡ record { refusal = 13; reason = 0; cell = 0; program = 0; war-cell = 0; war-program = 0 }
-    ∷ record { refusal = 0; reason = 1; cell = 7; program = 3; war-cell = 0; war-program = 0 }
-    ∷ record { refusal = 0; reason = 2; cell = 8; program = 4; war-cell = 0; war-program = 0 }
-    ∷ record { refusal = 0; reason = 3; cell = 9; program = 5; war-cell = 6; war-program = 2 }
+    ≡ record { refusal = refusing 13; reason = 0; cell = 0; program = 0; war-cell = 0; war-program = 0 }
+    ∷ record { refusal = refusing 0; reason = 1; cell = 7; program = 3; war-cell = 0; war-program = 0 }
+    ∷ record { refusal = refusing 0; reason = 2; cell = 8; program = 4; war-cell = 0; war-program = 0 }
+    ∷ record { refusal = refusing 0; reason = 3; cell = 9; program = 5; war-cell = 6; war-program = 2 }
     ∷ []
 numbers = refl
 

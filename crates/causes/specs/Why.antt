@@ -87,7 +87,7 @@ pub record Explains (image t a : List ℕ) (k : ℕ) (r : Why) : Type 0 where
 
 -- The numbers of an answer: "reasons 1 and 2 leave the war pair 0"; a refusal leaves all others 0.
 pub record WhyNumbers : Type 0 where
-  pub refusal : ℕ
+  pub refusal : Refusal
   pub reason : ℕ
   pub cell : ℕ
   pub program : ℕ
@@ -97,7 +97,7 @@ pub record WhyNumbers : Type 0 where
 abbrev pub numbersFor : Reason → (cause war : Cause) → WhyNumbers
 numbersFor reason cause war =
     record {
-      refusal = 0;
+      refusal = refusal.none;
       reason = reasonNumber reason;
       cell = cause .cell;
       program = cause .program;
@@ -109,7 +109,7 @@ abbrev pub noCause : Cause
 noCause = record { cell = 0; program = 0 }
 
 abbrev pub noReason : Refusal → WhyNumbers
-noReason r = record { refusal = r .number; reason = 0; cell = 0; program = 0; war-cell = 0; war-program = 0 }
+noReason r = record { refusal = r; reason = 0; cell = 0; program = 0; war-cell = 0; war-program = 0 }
 
 abbrev pub numbersOfWhy : Why → WhyNumbers
 numbersOfWhy (why.Refused r) = noReason r

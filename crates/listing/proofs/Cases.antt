@@ -4,7 +4,8 @@ use Prim.Native.Nat.{ℕ}
 use mathlib.Core.Path.{_≡_, refl}
 use mathlib.Core.List.{List, [], _∷_, _++_, map}
 use lib.ListN.{set, replicate}
-use Rattle.image.specs.Refusals.{Counted}
+use Rattle.image.specs.declared.Refusal.{Refusal}
+use Rattle.image.specs.Refusals.{refusing, Counted, noCount, counted}
 use Rattle.image.specs.Assembler.{joined, image}
 use Rattle.image.specs.Bench.{x, y, z}
 use Rattle.slot.specs.declared.Group.the-variants.{Committed}
@@ -45,10 +46,13 @@ abbrev pub called : (image table area list : List ℕ) → Counted × List ℕ
 called image t a list = (numbersOfListed (orderAnswer image t a list), orderList image t a list)
 
 abbrev pub done : ℕ → List ℕ → Counted × List ℕ
-done count list = (record { refusal = 0; count = count }, list)
+done count list = (counted count, list)
+
+abbrev pub refusedWith : Refusal → List ℕ → Counted × List ℕ
+refusedWith refusal list = (noCount refusal, list)
 
 abbrev pub refused : ℕ → List ℕ → Counted × List ℕ
-refused refusal list = (record { refusal = refusal; count = 0 }, list)
+refused number = refusedWith (refusing number)
 
 -- the call for these slots, with a list of five entries that are 9
 abbrev pub nines : List ℕ

@@ -4,13 +4,13 @@ use Prim.Native.Nat.{ℕ}
 use mathlib.Core.Path.{_≡_, refl}
 use mathlib.Core.List.{List, [], _∷_, _++_, map}
 use lib.ListN.{take, set, replicate}
-use Rattle.image.specs.Refusals.{Counted, refusing}
-use Rattle.image.specs.Assembler.{instruction, program, image}
+use Rattle.image.specs.Refusals.{refusingAt, refusing, Counted}
+use Rattle.image.specs.Assembler.{instruction, end, program, image}
 use Rattle.image.specs.Bench.{x, y, z}
 use Rattle.listing.specs.declared.Listed.the-variants.{Refused, Count}
 use Rattle.listing.specs.Listing.{OrderSays}
 use Rattle.listing.specs.Opened.{opened}
-use Rattle.listing.proofs.Cases.{slot, committed, idle, area, batch, table, called, done, refused, nines, lists}
+use Rattle.listing.proofs.Cases.{slot, committed, idle, area, batch, table, called, done, refusedWith, refused, nines, lists}
 
 -- "When done, .. the order its count.": none committed, and no program at all, also with a list of no entries
 none-listed : lists (slot 5 [] [] ∷ []) ∷ lists [] ∷ called (batch []) table (area []) [] ∷ [] ≡ done 0 nines ∷ done 0 nines ∷ done 0 [] ∷ []
@@ -67,7 +67,7 @@ circles = refl
 -- "Checks go in the row order": 1 to 7, 9, 10, 12, each on a call that breaks all rows after it too, as far as they can be broken together. "A refusal
 -- returns its number, 0 for every other result, and changes no lent memory."
 abbrev bad : ℕ → List ℕ
-bad rule = image rule (program (instruction 9 0 0 0 ∷ []) ∷ [] ∷ [])
+bad rule = image rule ([] ∷ program (end ∷ end ∷ instruction 9 0 0 0 ∷ []) ∷ [])
 
 -- a circle of two, and the same with program 0 in state 1, and with a mark that names program 2 besides
 abbrev stuck : List ℕ
@@ -90,7 +90,8 @@ row-order : called (take 5 (bad 3)) [] overmarked (9 ∷ [])
     ∷ called (batch circle-of-two) table stuck (9 ∷ [])
     ∷ called (batch circle-of-two) table stuck (9 ∷ 9 ∷ [])
     ∷ []
-    ≡ map (λ r. refused r (9 ∷ [])) (1 ∷ 2 ∷ 3 ∷ 4 ∷ 5 ∷ 6 ∷ 7 ∷ 9 ∷ 10 ∷ []) ++ (refused 12 (9 ∷ 9 ∷ []) ∷ [])
+    ≡ map (λ r. refused r (9 ∷ [])) (1 ∷ 2 ∷ 3 ∷ []) ++ (refusedWith (refusingAt 41 1 2) (9 ∷ []) ∷ map (λ r. refused r (9 ∷ [])) (5 ∷ 6 ∷ 7 ∷ 9 ∷ 10 ∷ []))
+    ++ (refused 12 (9 ∷ 9 ∷ []) ∷ [])
 unfolding opened
 row-order = refl
 

@@ -3,10 +3,10 @@ ghost use Rattle.steps.specs.Answers.{doneWith, refusedBy, numbersOfGathered, n
 ghost use Rattle.causes.specs.Why.{numbersFor, numbersOfWhy};
 ghost use Rattle.numbers.specs.Numbers.{Tells, CauseTells};
 
-// The refusal, or 0 with the slot's state and detail.
+// The refusal, or none with the slot's state and detail.
 #[repr(C)]
 pub struct StepNumbers {
-    pub refusal: u32,
+    pub refusal: image::Refusal,
     pub state: u32,
     pub detail: u32,
 }
@@ -15,7 +15,7 @@ fn refused(refusal: image::Refusal) -> StepNumbers
     ensures { λ r. ⌜ Tells (refusedBy refusal) r ⌝ }
 {
     StepNumbers {
-        refusal: refusal.number,
+        refusal,
         state: 0,
         detail: 0,
     }
@@ -25,7 +25,7 @@ fn done(state: u32, detail: u32) -> StepNumbers
     ensures { λ r. ⌜ Tells (doneWith state detail) r ⌝ }
 {
     StepNumbers {
-        refusal: 0,
+        refusal: image::Refusal::NONE,
         state,
         detail,
     }
@@ -52,10 +52,10 @@ pub fn of_settled(answer: steps::Settled) -> StepNumbers
     }
 }
 
-// The refusal, or 0 with the reason and its cause; the second pair is that of WAR.
+// The refusal, or none with the reason and its cause; the second pair is that of WAR.
 #[repr(C)]
 pub struct CauseNumbers {
-    pub refusal: u32,
+    pub refusal: image::Refusal,
     pub reason: u32,
     pub cell: u32,
     pub program: u32,
@@ -67,7 +67,7 @@ fn carried_for(reason: steps::Reason, cause: causes::Cause, war: causes::Cause) 
     ensures { λ r. ⌜ CauseTells (numbersFor reason cause war) r ⌝ }
 {
     CauseNumbers {
-        refusal: 0,
+        refusal: image::Refusal::NONE,
         reason: steps::reason_number(reason),
         cell: cause.cell,
         program: cause.program,
@@ -86,7 +86,7 @@ pub fn of_why(answer: causes::Why) -> CauseNumbers
     };
     match answer {
         causes::Why::Refused(refusal) => CauseNumbers {
-            refusal: refusal.number,
+            refusal,
             reason: 0,
             cell: 0,
             program: 0,

@@ -24,6 +24,7 @@ pub mod WithinBatches
 pub mod Counting
 pub mod Sheet
 pub mod Refusing
+pub mod Places
 pub mod NextBatch
 pub mod WhyCarried
 pub mod ComesBefore

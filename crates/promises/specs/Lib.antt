@@ -4,5 +4,6 @@ pub mod Laid
 pub mod History
 pub mod Serial
 pub mod Batches
+pub mod Places
 pub mod Opened
 pub mod Sheet

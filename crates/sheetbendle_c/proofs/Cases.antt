@@ -4,8 +4,8 @@ use Prim.Native.Nat.{ℕ}
 use mathlib.Core.Path.{_≡_, refl}
 use mathlib.Core.List.{List, [], _∷_, _++_}
 use lib.ListN.{replicate}
-use Rattle.image.specs.Refusals.{refusing, noCount, counted}
-use Rattle.image.specs.Assembler.{end, reject, program, image}
+use Rattle.image.specs.Refusals.{refusingAt, refusing, noCount, counted}
+use Rattle.image.specs.Assembler.{end, set, reject, program, image}
 use Rattle.image.specs.Opened as images
 use Rattle.area.specs.Sketch.{slot, area}
 use Rattle.steps.specs.Opened as steps
@@ -21,24 +21,30 @@ use Rattle.sheetbendle_c.specs.Calls.{PartTells, ProgramRefusalTells, Op
 abbrev two : List ℕ
 two = image 2 (program (reject 7 ∷ []) ∷ program (end ∷ end ∷ []) ∷ [])
 
+-- the same, but instruction 1 of program 1 names register 8
+abbrev bad : List ℕ
+bad = image 2 (program (reject 7 ∷ []) ∷ program (end ∷ set 8 0 ∷ []) ∷ [])
+
 program-tells : PartTells two 1 (record { start = 14; length = 8 }) × PartTells two 2 (record { start = 0; length = 0 })
 unfolding images.opened
 program-tells = (record { start = refl; extent = refl }, record { start = refl; extent = refl })
 
-program-refusal-tells : ProgramRefusalTells two 1 0 × ProgramRefusalTells two 2 8
+program-refusal-tells : ProgramRefusalTells two 1 (refusing 0) × ProgramRefusalTells two 2 (refusing 8) × ProgramRefusalTells bad 2 (refusingAt 42 1 1)
 unfolding images.opened
-program-refusal-tells = (record { number = refl }, record { number = refl })
+program-refusal-tells = (record { refusal = refl }, record { refusal = refl }, record { refusal = refl })
 
 -- "the order its count, the next image its length. A refusal returns its number, 0 for every other result"
-count-tells : CountTells (counted 28) (record { refusal = 0; count = 28 }) × CountTells (noCount (refusing 10)) (record { refusal = 10; count = 0 })
+count-tells : CountTells (counted 28) (record { refusal = refusing 0; count = 28 }) × CountTells (noCount (refusing 10)) (record { refusal = refusing 10; count = 0 })
 count-tells = (record { refusal = refl; count = refl }, record { refusal = refl; count = refl })
 
-open-tells : OpenTells (image 0 []) (5 ∷ []) (7 ∷ 7 ∷ []) 0 (0 ∷ 0 ∷ []) × OpenTells (image 0 []) [] (7 ∷ 7 ∷ []) 5 (7 ∷ 7 ∷ [])
+open-tells : OpenTells (image 0 []) (5 ∷ []) (7 ∷ 7 ∷ []) (refusing 0) (0 ∷ 0 ∷ [])
+    × OpenTells (image 0 []) [] (7 ∷ 7 ∷ []) (refusing 5) (7 ∷ 7 ∷ [])
+    × OpenTells bad [] (7 ∷ 7 ∷ []) (refusingAt 42 1 1) (7 ∷ 7 ∷ [])
 unfolding steps.opened
-open-tells = (record { number = refl; area = refl }, record { number = refl; area = refl })
+open-tells = (record { refusal = refl; area = refl }, record { refusal = refl; area = refl }, record { refusal = refl; area = refl })
 
 -- one program on one cell: it rejects with 7; it has stored 60 and is committed, and listed; it is carried
-gather-tells : GatherTells (image 1 (program (reject 7 ∷ []) ∷ [])) (5 ∷ []) (replicate 102 0) 0 (record { refusal = 0; state = 2; detail = 7 })
+gather-tells : GatherTells (image 1 (program (reject 7 ∷ []) ∷ [])) (5 ∷ []) (replicate 102 0) 0 (record { refusal = refusing 0; state = 2; detail = 7 })
     (area (0 ∷ []) (0 ∷ []) (slot 2 7 [] [] [] ∷ []))
 unfolding steps.opened
 gather-tells = record { numbers = record { refusal = refl; state = refl; detail = refl }; area = refl }
@@ -46,7 +52,7 @@ gather-tells = record { numbers = record { refusal = refl; state = refl; detail 
 abbrev storing : ℕ → List ℕ
 storing state = area (1 ∷ []) (0 ∷ []) (slot state 0 [] (0 ∷ []) (60 ∷ []) ∷ [])
 
-settle-tells : SettleTells (image 1 ([] ∷ [])) (5 ∷ []) (storing 1) 0 (record { refusal = 0; state = 4; detail = 0 }) (60 ∷ []) (storing 4)
+settle-tells : SettleTells (image 1 ([] ∷ [])) (5 ∷ []) (storing 1) 0 (record { refusal = refusing 0; state = 4; detail = 0 }) (60 ∷ []) (storing 4)
 unfolding steps.opened
 settle-tells = record { numbers = record { refusal = refl; state = refl; detail = refl }; table = refl; area = refl }
 
@@ -54,19 +60,19 @@ settle-tells = record { numbers = record { refusal = refl; state = refl; detail 
 abbrev waited : List ℕ
 waited = area (1 ∷ []) (2 ∷ []) (slot 4 0 [] (0 ∷ []) (60 ∷ []) ∷ slot 5 2 (0 ∷ []) [] [] ∷ [])
 
-why-tells : WhyTells (image 1 ([] ∷ [] ∷ [])) (5 ∷ []) waited 1 (record { refusal = 0; reason = 2; cell = 0; program = 0; «war_cell» = 0; «war_program» = 0 })
-    × WhyTells (image 1 ([] ∷ [] ∷ [])) (5 ∷ []) waited 0 (record { refusal = 13; reason = 0; cell = 0; program = 0; «war_cell» = 0; «war_program» = 0 })
+why-tells : WhyTells (image 1 ([] ∷ [] ∷ [])) (5 ∷ []) waited 1 (record { refusal = refusing 0; reason = 2; cell = 0; program = 0; «war_cell» = 0; «war_program» = 0 })
+    × WhyTells (image 1 ([] ∷ [] ∷ [])) (5 ∷ []) waited 0 (record { refusal = refusing 13; reason = 0; cell = 0; program = 0; «war_cell» = 0; «war_program» = 0 })
 unfolding causes.opened
 why-tells = (
   record { numbers = record { refusal = refl; reason = refl; cell = refl; program = refl; war-cell = refl; war-program = refl } },
   record { numbers = record { refusal = refl; reason = refl; cell = refl; program = refl; war-cell = refl; war-program = refl } },
 )
 
-order-tells : OrderTells (image 1 ([] ∷ [])) (5 ∷ []) (storing 4) (9 ∷ 9 ∷ []) (record { refusal = 0; count = 1 }) (0 ∷ 9 ∷ [])
+order-tells : OrderTells (image 1 ([] ∷ [])) (5 ∷ []) (storing 4) (9 ∷ 9 ∷ []) (record { refusal = refusing 0; count = 1 }) (0 ∷ 9 ∷ [])
 unfolding listing.opened
 order-tells = record { numbers = record { refusal = refl; count = refl }; entries = refl }
 
-next-tells : NextTells (image 1 ([] ∷ [])) (5 ∷ []) (storing 5) (image 2 []) (replicate 9 9) (record { refusal = 0; count = 8 }) (image 2 ([] ∷ []) ++ (9 ∷ []))
+next-tells : NextTells (image 1 ([] ∷ [])) (5 ∷ []) (storing 5) (image 2 []) (replicate 9 9) (record { refusal = refusing 0; count = 8 }) (image 2 ([] ∷ []) ++ (9 ∷ []))
 unfolding carry.opened
 next-tells = record { numbers = record { refusal = refl; count = refl }; bytes = refl }
 
@@ -74,9 +80,9 @@ next-tells = record { numbers = record { refusal = refl; count = refl }; bytes =
 lines-shown : lineShown 4294967295 ∷ lineShown 4294967296 ∷ lineShown 8589934592 ∷ [] ≡ 4294967295 ∷ 4294967295 ∷ 4294967295 ∷ []
 lines-shown = refl
 
-image-of-tells : ImageOfTells (ascii "rule 2\n") (replicate 7 9) (record { refusal = 0; length = 6; line = 0 }) (0 ∷ 0 ∷ 2 ∷ 0 ∷ 6 ∷ 0 ∷ 9 ∷ [])
-    × ImageOfTells (ascii "rule 2\nprogram\nend\n") (9 ∷ []) (record { refusal = 51; length = 0; line = 3 }) (9 ∷ [])
-    × ImageOfTells (ascii "rule 2\n") (9 ∷ []) (record { refusal = 10; length = 0; line = 0 }) (9 ∷ [])
+image-of-tells : ImageOfTells (ascii "rule 2\n") (replicate 7 9) (record { refusal = refusing 0; length = 6; line = 0 }) (0 ∷ 0 ∷ 2 ∷ 0 ∷ 6 ∷ 0 ∷ 9 ∷ [])
+    × ImageOfTells (ascii "rule 2\nprogram\nend\n") (9 ∷ []) (record { refusal = refusing 51; length = 0; line = 3 }) (9 ∷ [])
+    × ImageOfTells (ascii "rule 2\n") (9 ∷ []) (record { refusal = refusing 10; length = 0; line = 0 }) (9 ∷ [])
 unfolding from-sheet.opened
 image-of-tells = (
   record { numbers = record { refusal = refl; extent = refl; line = refl }; bytes = refl },
@@ -84,8 +90,8 @@ image-of-tells = (
   record { numbers = record { refusal = refl; extent = refl; line = refl }; bytes = refl },
 )
 
-sheet-of-tells : SheetOfTells (image 2 []) (replicate 8 9) (record { refusal = 0; length = 7; line = 0 }) (ascii "rule 2\n" ++ (9 ∷ []))
-    × SheetOfTells [] (9 ∷ []) (record { refusal = 1; length = 0; line = 0 }) (9 ∷ [])
+sheet-of-tells : SheetOfTells (image 2 []) (replicate 8 9) (record { refusal = refusing 0; length = 7; line = 0 }) (ascii "rule 2\n" ++ (9 ∷ []))
+    × SheetOfTells [] (9 ∷ []) (record { refusal = refusing 1; length = 0; line = 0 }) (9 ∷ [])
 unfolding from-image.opened
 sheet-of-tells = (
   record { numbers = record { refusal = refl; extent = refl; line = refl }; bytes = refl },

@@ -5,6 +5,7 @@ use Prim.Native.Nat.{ℕ}
 use denote.Ref.{now}
 use mathlib.Core.Path.{_≡_, sym, _∙_}
 use Rattle.base.specs.Unique.{Unique}
+use Rattle.image.specs.declared.Refusal.{Refusal}
 use Rattle.image.specs.Refusals.{Counted}
 use Rattle.numbers.proofs.Unique.{told-once, cause-once}
 use Rattle.numbers.specs.declared.StepNumbers.{StepNumbers}
@@ -50,10 +51,10 @@ text-once n x y p q =
 pub program-unique : Unique {A = PartNumbers} 1 program-kinds.ps program-kinds.r (λ κs x s. x) program.Post
 program-unique κs a x y s t p q = part-once _ _ x y p q
 
-pub program-refusal-unique : Unique {A = ℕ} 1 program-refusal-kinds.ps program-refusal-kinds.r (λ κs x s. x) program-refusal.Post
+pub program-refusal-unique : Unique {A = Refusal} 1 program-refusal-kinds.ps program-refusal-kinds.r (λ κs x s. x) program-refusal.Post
 program-refusal-unique κs a x y s t p q = cc
 
-pub open-unique : Unique {A = ℕ × List ℕ} 3 open-kinds.ps open-kinds.r (λ κs x s. (x, now (s .1 .1 .0))) opening.Post
+pub open-unique : Unique {A = Refusal × List ℕ} 3 open-kinds.ps open-kinds.r (λ κs x s. (x, now (s .1 .1 .0))) opening.Post
 open-unique κs a x y s t p q = cc
 
 pub gather-unique : Unique {A = StepNumbers × List ℕ} 3 gather-kinds.ps gather-kinds.r (λ κs x s. (x, now (s .1 .1 .0))) gather.Post

@@ -3,6 +3,7 @@ use Prim.Native.Nat.{ℕ, min}
 use mathlib.Core.Path.{_≡_}
 use mathlib.Core.List.{List}
 use lib.ListN.{length}
+use Rattle.image.specs.declared.Refusal.{Refusal}
 use Rattle.image.specs.Refusals.{Counted}
 use Rattle.image.specs.Image.{programOf, startOf, programRefusalOf}
 use Rattle.area.specs.Checks.{openRefusal}
@@ -28,12 +29,12 @@ pub record PartTells (image : List ℕ) (k : ℕ) (r : PartNumbers) : Type 0 whe
   pub start : r .start ≡ startOf image k
   pub extent : r .length ≡ length (programOf image k)
 
--- of why there is none: the refusal's number, or 0
-pub record ProgramRefusalTells (image : List ℕ) (k : ℕ) (r : ℕ) : Type 0 where
-  pub number : r ≡ programRefusalOf image k .number
+-- of why there is none: the refusal, or none
+pub record ProgramRefusalTells (image : List ℕ) (k : ℕ) (r : Refusal) : Type 0 where
+  pub refusal : r ≡ programRefusalOf image k
 
-pub record OpenTells (image t a : List ℕ) (r : ℕ) (a′ : List ℕ) : Type 0 where
-  pub number : r ≡ openRefusal image t a .number
+pub record OpenTells (image t a : List ℕ) (r : Refusal) (a′ : List ℕ) : Type 0 where
+  pub refusal : r ≡ openRefusal image t a
   pub area : a′ ≡ openArea image t a
 
 pub record CountTells (numbers : Counted) (r : CountNumbers) : Type 0 where

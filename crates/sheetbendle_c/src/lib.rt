@@ -1,6 +1,6 @@
 // The library for C: include/sheetbendle.h declares these functions. A slice is a pointer and a length there.
 ghost use mathlib.Core.Path.{_≡_};
-ghost use Prim.Native.Nat.{_^_, _<_, min};
+ghost use Prim.Native.Nat.{_^_, _<_};
 ghost use Rattle.listing.specs.Listing.{numbersOfListed};
 ghost use Rattle.carry.specs.Next.{numbersOfNext};
 ghost use Rattle.sheetbendle_c.specs.Calls.{PartTells, ProgramRefusalTells, OpenTells, GatherTells, SettleTells};
@@ -15,17 +15,17 @@ pub struct PartNumbers {
     pub length: usize,
 }
 
-// The refusal, or 0 with the order's count or the next image's length.
+// The refusal, or none with the order's count or the next image's length.
 #[repr(C)]
 pub struct CountNumbers {
-    pub refusal: u32,
+    pub refusal: image::Refusal,
     pub count: u32,
 }
 
-// The refusal, or 0 with the length written; of refusal 51 also the line.
+// The refusal, or none with the length written; of refusal 51 also the line.
 #[repr(C)]
 pub struct TextNumbers {
-    pub refusal: u32,
+    pub refusal: image::Refusal,
     pub length: u32,
     pub line: u32,
 }
@@ -40,17 +40,17 @@ pub extern "C" fn sheetbendle_program(image: &[u8], number: usize) -> PartNumber
 }
 
 #[no_mangle]
-pub extern "C" fn sheetbendle_program_refusal(image: &[u8], number: usize) -> u32
+pub extern "C" fn sheetbendle_program_refusal(image: &[u8], number: usize) -> image::Refusal
     ensures { λ r. ⌜ ProgramRefusalTells (now (image .entry)) number r ⌝ }
 {
-    image::program_refusal(image, number).number
+    image::program_refusal(image, number)
 }
 
 #[no_mangle]
-pub extern "C" fn sheetbendle_open(image: &[u8], table: &[u32], area: &mut [u32]) -> u32
+pub extern "C" fn sheetbendle_open(image: &[u8], table: &[u32], area: &mut [u32]) -> image::Refusal
     ensures { λ r. ⌜ OpenTells (now (image .entry)) (now (table .entry)) (now (area .entry)) r (now (area .exit)) ⌝ }
 {
-    steps::open(image, table, area).number
+    steps::open(image, table, area)
 }
 
 #[no_mangle]
@@ -95,12 +95,9 @@ fn of_listed(answer: listing::Listed) -> CountNumbers
     ensures { λ r. ⌜ CountTells (numbersOfListed answer) r ⌝ }
 {
     match answer {
-        listing::Listed::Refused(refusal) => CountNumbers {
-            refusal: refusal.number,
-            count: 0,
-        },
+        listing::Listed::Refused(refusal) => CountNumbers { refusal, count: 0 },
         listing::Listed::Count(count) => CountNumbers {
-            refusal: 0,
+            refusal: image::Refusal::NONE,
             count: count as u32,
         },
     }
@@ -124,12 +121,9 @@ fn of_next(answer: carry::Next) -> CountNumbers
     ensures { λ r. ⌜ CountTells (numbersOfNext answer) r ⌝ }
 {
     match answer {
-        carry::Next::Refused(refusal) => CountNumbers {
-            refusal: refusal.number,
-            count: 0,
-        },
+        carry::Next::Refused(refusal) => CountNumbers { refusal, count: 0 },
         carry::Next::Length(length) => CountNumbers {
-            refusal: 0,
+            refusal: image::Refusal::NONE,
             count: length as u32,
         },
     }
@@ -166,17 +160,17 @@ fn of_written(answer: sheet::Written) -> TextNumbers
 {
     match answer {
         sheet::Written::Refused(refusal) => TextNumbers {
-            refusal: refusal.number,
+            refusal,
             length: 0,
             line: 0,
         },
         sheet::Written::BadLine(line) => TextNumbers {
-            refusal: image::Refusal::LINE.number,
+            refusal: image::Refusal::LINE,
             length: 0,
             line: line_shown(line),
         },
         sheet::Written::Length(length) => TextNumbers {
-            refusal: 0,
+            refusal: image::Refusal::NONE,
             length: length as u32,
             line: 0,
         },

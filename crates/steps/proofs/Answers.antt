@@ -5,6 +5,8 @@ use mathlib.Core.Bool.{Bool, true, false}
 use mathlib.Core.List.{List}
 use native.Mathlib.Omega.{arith}
 use lib.ListN.{length, getD}
+use Rattle.image.specs.declared.Refusal.{Refusal}
+use Rattle.image.specs.Refusals.{none}
 use Rattle.image.proofs.Refusing.{unless-done}
 use Rattle.image.specs.Image.{countOf, partOf}
 use Rattle.slot.specs.Layout.{stateWord, detailWord, slotWords}
@@ -25,8 +27,8 @@ use Rattle.steps.proofs.Refusals.{gather-shows, settle-shows}
 use Rattle.steps.proofs.Views.{gathered-own}
 use Rattle.steps.proofs.Keeps.{fits}
 
-same-numbers : (x : Numbers) (state detail : ℕ) → x .refusal ≡ 0 → state ≡ x .state → detail ≡ x .detail → x ≡ doneWith state detail
-same-numbers x state detail e f g = rw (f, g) (ap (λ (r : ℕ). record { refusal = r; state = x .state; detail = x .detail }) e)
+same-numbers : (x : Numbers) (state detail : ℕ) → x .refusal ≡ none → state ≡ x .state → detail ≡ x .detail → x ≡ doneWith state detail
+same-numbers x state detail e f g = rw (f, g) (ap (λ (r : Refusal). record { refusal = r; state = x .state; detail = x .detail }) e)
 
 -- ---- gathering
 
@@ -51,11 +53,11 @@ module _ (image t a : List ℕ) (k : ℕ) where
 -- ---- settling
 
 -- a decision is no refusal
-decided-done : (second waw raw war : Bool) → numbersOfSettled (decided second waw raw war) .refusal ≡ 0
+decided-done : (second waw raw war : Bool) → numbersOfSettled (decided second waw raw war) .refusal ≡ none
 unfolding decided byRule1 byRule2
 decided-done second true raw war = go second
   where
-    go : (second : Bool) → numbersOfSettled (decided second true raw war) .refusal ≡ 0
+    go : (second : Bool) → numbersOfSettled (decided second true raw war) .refusal ≡ none
     go true = refl
     go false = refl
 decided-done true false true true = refl
@@ -65,7 +67,7 @@ decided-done false false true war = refl
 decided-done false false false war = refl
 
 module _ (image t a : List ℕ) (k : ℕ) where
-  settled-words : Checked image t a → k < countOf image → (v : Settled) → numbersOfSettled v .refusal ≡ 0
+  settled-words : Checked image t a → k < countOf image → (v : Settled) → numbersOfSettled v .refusal ≡ none
       → numbersOfSettled v ≡ wordsOf (length t) k (settledArea v (length t) k a)
   unfolding settledArea
   settled-words c h v e =

@@ -119,7 +119,7 @@ numbers : map numbersOfGathered (Ran (Rejected 7) ∷ Ran (Faulted 2 4) ∷ Ran 
     ≡ doneWith 2 7 ∷ doneWith 3 516 ∷ doneWith 3 260 ∷ doneWith 1 0 ∷ []
 numbers = refl
 
-done-is-0 : doneWith 3 516 ≡ record { refusal = 0; state = 3; detail = 516 }
+done-is-0 : doneWith 3 516 ≡ record { refusal = refusing 0; state = 3; detail = 516 }
 done-is-0 = refl
 
 -- what the call's contract says of all this

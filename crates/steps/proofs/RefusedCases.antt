@@ -4,13 +4,14 @@ use Prim.Native.Nat.{ℕ}
 use mathlib.Core.Path.{_≡_, refl}
 use mathlib.Core.List.{List, [], _∷_, _++_, map}
 use lib.ListN.{take, replicate}
-use Rattle.image.specs.Refusals.{refusing}
-use Rattle.image.specs.Assembler.{instruction, program, image}
+use Rattle.image.specs.declared.Refusal.{Refusal}
+use Rattle.image.specs.Refusals.{refusingAt, refusing}
+use Rattle.image.specs.Assembler.{instruction, end, program, image}
 use Rattle.area.specs.Checks.{openRefusal}
 use Rattle.area.specs.Sketch.{slot, area}
 use Rattle.steps.specs.declared.Gathered.the-variants as gathering
 use Rattle.steps.specs.declared.Settled.the-variants as settling
-use Rattle.steps.specs.Answers.{Numbers, numbersOfGathered, numbersOfSettled}
+use Rattle.steps.specs.Answers.{Numbers, refusedBy, numbersOfGathered, numbersOfSettled}
 use Rattle.steps.specs.Opening.{openArea, OpenSays}
 use Rattle.steps.specs.Gathering.{gatherAnswer, gatherArea, GatherSays}
 use Rattle.steps.specs.Settling.{settleAnswer, settleTable, settleArea, SettleSays}
@@ -27,7 +28,7 @@ states mark first second = area (mark ∷ []) (mark ∷ []) (slot first 0 [] [] 
 
 -- The three numbers of an answer.
 abbrev three : ℕ → ℕ → ℕ → Numbers
-three refusal state detail = record { refusal = refusal; state = state; detail = detail }
+three refusal state detail = record { refusal = refusing refusal; state = state; detail = detail }
 
 abbrev gathers : List ℕ → List ℕ → List ℕ → ℕ → Numbers
 gathers i t a k = numbersOfGathered (gatherAnswer i t a k)
@@ -37,12 +38,12 @@ settles i t a k = numbersOfSettled (settleAnswer i t a k)
 
 -- ---- the row order
 
--- Inputs that break two neighbours each. 1, 2: rule 3 in 5 bytes. 2, 3: rule 3 and a byte too many. 3, 4: a byte too many after operation 9.
--- 4, 5: operation 9 and no cells. 5, 6: no cells and a word too many. 6, 7: a word too many and marks over n. 7, 8: marks over n and number n.
+-- Inputs that break two neighbours each. 1, 2: rule 3 in 5 bytes. 2, 3: rule 3 and a byte too many. 3, 41: a byte too many after operation 9.
+-- 41, 5: operation 9 and no cells. 5, 6: no cells and a word too many. 6, 7: a word too many and marks over n. 7, 8: marks over n and number n.
 -- 8, 9: number n where some state is 0. 9: state 1 beside state 0.
 abbrev broken : {A : Type 0} → ((i t a : List ℕ) → (k : ℕ) → A) → List A
 broken f =
-    let bad : List ℕ = image 0 (program (instruction 9 0 0 0 ∷ []) ∷ []) in
+    let bad : List ℕ = image 0 ([] ∷ program (end ∷ end ∷ instruction 9 0 0 0 ∷ []) ∷ []) in
     f (take 5 (image 3 [])) (5 ∷ []) (7 ∷ 7 ∷ []) 0
     ∷ f (image 3 [] ++ (0 ∷ [])) (5 ∷ []) (7 ∷ 7 ∷ []) 0
     ∷ f (bad ++ (0 ∷ [])) (5 ∷ []) (7 ∷ 7 ∷ []) 0
@@ -54,23 +55,27 @@ broken f =
     ∷ f two (5 ∷ []) (states 2 1 0) 0
     ∷ []
 
+-- 1 to 3, then 41 with its place, instruction 2 of program 1, then these
+abbrev refusals : List ℕ → List Refusal
+refusals rest = map refusing (1 ∷ 2 ∷ 3 ∷ []) ++ (refusingAt 41 1 2 ∷ map refusing rest)
+
 -- the last three are nothing to opening, which knows neither marks, nor numbers, nor states
-opening : broken (λ i t a k. openRefusal i t a) ≡ map refusing (1 ∷ 2 ∷ 3 ∷ 4 ∷ 5 ∷ 6 ∷ 0 ∷ 0 ∷ 0 ∷ [])
+opening : broken (λ i t a k. openRefusal i t a) ≡ refusals (5 ∷ 6 ∷ 0 ∷ 0 ∷ 0 ∷ [])
 unfolding opened
 opening = refl
 
-gathering-answers : broken gatherAnswer ≡ map (λ n. gathering.Refused (refusing n)) (1 ∷ 2 ∷ 3 ∷ 4 ∷ 5 ∷ 6 ∷ 7 ∷ 8 ∷ 9 ∷ [])
+gathering-answers : broken gatherAnswer ≡ map gathering.Refused (refusals (5 ∷ 6 ∷ 7 ∷ 8 ∷ 9 ∷ []))
 unfolding opened
 gathering-answers = refl
 
-settling-answers : broken settleAnswer ≡ map (λ n. settling.Refused (refusing n)) (1 ∷ 2 ∷ 3 ∷ 4 ∷ 5 ∷ 6 ∷ 7 ∷ 8 ∷ 9 ∷ [])
+settling-answers : broken settleAnswer ≡ map settling.Refused (refusals (5 ∷ 6 ∷ 7 ∷ 8 ∷ 9 ∷ []))
 unfolding opened
 settling-answers = refl
 
 -- ---- "A refusal returns its number, 0 for every other result, and changes no lent memory."
 
-numbers-of-refusals : (broken gathers ≡ map (λ n. three n 0 0) (1 ∷ 2 ∷ 3 ∷ 4 ∷ 5 ∷ 6 ∷ 7 ∷ 8 ∷ 9 ∷ []))
-    × (broken settles ≡ map (λ n. three n 0 0) (1 ∷ 2 ∷ 3 ∷ 4 ∷ 5 ∷ 6 ∷ 7 ∷ 8 ∷ 9 ∷ []))
+numbers-of-refusals : (broken gathers ≡ map refusedBy (refusals (5 ∷ 6 ∷ 7 ∷ 8 ∷ 9 ∷ [])))
+    × (broken settles ≡ map refusedBy (refusals (5 ∷ 6 ∷ 7 ∷ 8 ∷ 9 ∷ [])))
 unfolding opened
 numbers-of-refusals = (refl, refl)
 

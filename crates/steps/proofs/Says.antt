@@ -7,7 +7,8 @@ use lib.ListN.{length}
 use borrow.Author.Tests.{lt-ltb, le-ltb}
 use Rattle.image.specs.declared.Refusal.{Refusal}
 use Rattle.image.specs.Refusals as refusal
-use Rattle.image.proofs.Refusing.{none-is, refused-as, done-as}
+use Rattle.image.proofs.Refusing.{refused-as, done-as}
+use Rattle.image.proofs.Places.{none-is}
 use Rattle.image.specs.Image.{countOf, secondRule}
 use Rattle.machine.specs.declared.Run.{Run}
 use Rattle.slot.specs.declared.ListKind.{ListKind}
@@ -17,7 +18,7 @@ use Rattle.area.specs.declared.MarkKind.the-variants.{Write, Read}
 use Rattle.area.specs.Layout.{marksAt, readsOf, storesOf, withState}
 use Rattle.area.specs.Marks.{reserve, waw, raw, war, depends, lowest}
 use Rattle.area.specs.Checks.{openRefusal, Checked, Slotted}
-use Rattle.area.proofs.Checks.{checked-passed, program-slotted}
+use Rattle.area.proofs.Checks.{open-well, checked-passed, program-slotted}
 use Rattle.area.proofs.LowestCells.{depends-lowest}
 use Rattle.steps.specs.declared.Gathered.the-variants as gathering
 use Rattle.steps.specs.declared.Settled.{Settled}
@@ -42,7 +43,7 @@ module _ (image t a : List ℕ) (r : Refusal) (e : r ≡ openRefusal image t a) 
 
   pub open-done : r .number ≡ 0 → (a′ : List ℕ) → a′ ≡ cleared a → OpenSays image t a refusal.none a′
   unfolding openArea
-  open-done h a′ q = record { answer = sym (none-is h) ∙ e; area = done-as (λ r. a) e h q }
+  open-done h a′ q = record { answer = sym (none-is (rw e (open-well image t a)) h) ∙ e; area = done-as (λ r. a) e h q }
 
 -- ---- gathering
 

@@ -3,6 +3,7 @@
 use Prim.Native.Nat.{ℕ}
 use mathlib.Core.List.{List}
 use Rattle.image.specs.declared.Refusal.{Refusal}
+use Rattle.image.specs.Refusals.{none}
 use Rattle.slot.specs.States.{committed, carried}
 use Rattle.machine.specs.Runs.{stateOfRun, detailOfRun}
 use Rattle.area.specs.Layout.{stateOf, detailOf}
@@ -14,15 +15,15 @@ use Rattle.steps.specs.declared.Settled.{Settled}
 use Rattle.steps.specs.declared.Settled.the-variants as settling
 
 pub record Numbers : Type 0 where
-  pub refusal : ℕ
+  pub refusal : Refusal
   pub state : ℕ
   pub detail : ℕ
 
 abbrev pub refusedBy : Refusal → Numbers
-refusedBy r = record { refusal = r .number; state = 0; detail = 0 }
+refusedBy r = record { refusal = r; state = 0; detail = 0 }
 
 abbrev pub doneWith : ℕ → ℕ → Numbers
-doneWith state detail = record { refusal = 0; state = state; detail = detail }
+doneWith state detail = record { refusal = none; state = state; detail = detail }
 
 -- the state and the detail of program k, as numbers of a call that is done
 abbrev pub wordsOf : ℕ → ℕ → List ℕ → Numbers

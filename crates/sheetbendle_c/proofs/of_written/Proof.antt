@@ -8,7 +8,7 @@ use Rattle.sheet.specs.Answers.{numbersOfWritten}
 use Rattle.sheetbendle_c.proofs.of_written.Statement.{statement}
 use Rattle.sheetbendle_c.proofs.of_written.Tie as tie
 
-cast-length : tie.Need-cast-t8
+cast-length : tie.Need-cast-t9
 cast-length c =
     let small : c .before .answer3 .given .0 .0 < 2 ^ 32 = subst (λ (x : Written). numbersOfWritten x .length < 2 ^ 32) (c .before .answer3 .given .1) (c .before .before .before .pre) in
     omega arith
