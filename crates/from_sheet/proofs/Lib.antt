@@ -3,5 +3,10 @@ pub mod Pieces
 pub mod Sizing
 pub mod Says
 pub mod Unique
+pub mod Faults
+pub mod Named
 pub mod ReadPrograms
+pub mod Searching
+pub mod Standing
 pub mod Cases
+pub mod LineCases

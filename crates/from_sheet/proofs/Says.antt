@@ -12,21 +12,21 @@ use Rattle.text.proofs.Writing.{pasted-front}
 use Rattle.image.specs.Limits.{maxPrograms, maxInstructions, instructionBytes, headBytes, maxBytes}
 use Rattle.image.specs.declared.Refusal.{Refusal}
 use Rattle.image.specs.Refusals as refusal
-use Rattle.image.proofs.Refusing.{fails, goes-on, none-fails, first-refuses, first-passes, number-of, none-is, none-after, refused-as, done-as, unless-either}
+use Rattle.image.proofs.Refusing.{fails, goes-on, none-fails, first-refuses, first-passes, number-of, none-after, refused-as, done-as, unless-either}
 use Rattle.writer.proofs.Programs.{length-image}
 use Rattle.sheet.specs.declared.Written.the-variants.{Refused, BadLine, Length}
 use Rattle.sheet.specs.Answers.{numbersOfWritten}
 use Rattle.sheet.specs.Sheet.{linesOf, badLine, ruleOf, programs}
 use Rattle.from_sheet.specs.declared.counting.Sizes.{Sizes}
-use Rattle.from_sheet.specs.FromSheet.{programsOf, imageOfSheet, fewPrograms, shortPrograms, goodPrograms, programsRefusal, sheetRefusal, imageOfRefusal}
+use Rattle.from_sheet.specs.FromSheet.{programsOf, imageOfSheet, fewPrograms, shortPrograms, programsFault, programsRefusal, sheetRefusal, imageOfRefusal}
 use Rattle.from_sheet.specs.FromSheet.{refusedBy, imageOfAnswer, imageOfOutput, ImageOfSays}
-use Rattle.from_sheet.specs.Passes.{linesFrom, nothing, bodies, stillShort, stillGood, Sized, Writable}
+use Rattle.from_sheet.specs.Passes.{linesFrom, nothing, bodies, stillShort, Readable, stillFault, Sized, Writable}
 use Rattle.from_sheet.proofs.Passing.{lines-all}
 use Rattle.from_sheet.proofs.Pieces.{all-bodies}
 use Rattle.from_sheet.proofs.Sizing.{tally-programs, tally-bytes, tally-longest, joined-short}
-use Rattle.from_sheet.proofs.ReadPrograms.{all-good, all-short}
+use Rattle.from_sheet.proofs.ReadPrograms.{all-faults, all-readable}
 
--- ---- what checks 2 to 4 show
+-- ---- what checks 2 to 44 show
 
 programs-shown : (ps : List (List ℕ)) → programsRefusal ps .number ≡ 0 → (fewPrograms ps ≡ true) × (shortPrograms ps ≡ true)
 unfolding programsRefusal
@@ -40,7 +40,8 @@ pub image-short : (sheet : List ℕ) → programsRefusal (programsOf sheet) .num
 unfolding imageOfSheet fewPrograms
 image-short sheet passed =
     let p = programs-shown (programsOf sheet) passed in
-    omega (arith, leb-true (length (programsOf sheet)) maxPrograms (p .0), joined-short (programsOf sheet) (p .1), length-image (ruleOf (linesOf sheet)) (programsOf sheet))
+    let ps = programsOf sheet in
+    omega (arith, leb-true (length ps) maxPrograms (p .0), joined-short ps (p .1), length-image (ruleOf (linesOf sheet)) ps)
 
 -- ---- what the sizes of a sheet show
 
@@ -62,11 +63,14 @@ module _ {sheet : List ℕ} {s : Sizes} (z : Sized sheet s) where
       ∙ tally-longest nothing [] (linesFrom 0 sheet) (record { long = refl; within = omega arith })
       ∙ rw (z .nothing-leads) (ap shortPrograms same-programs)
 
-  pub good-are : stillGood [] (linesFrom 0 sheet) ≡ goodPrograms (programsOf sheet)
-  good-are = all-good (linesFrom 0 sheet) (z .nothing-leads) ∙ ap goodPrograms same-programs
+  pub fault-is : stillFault 0 [] (linesFrom 0 sheet) ≡ programsFault (programsOf sheet)
+  fault-is = all-faults (linesFrom 0 sheet) (z .nothing-leads) ∙ ap programsFault same-programs
 
-  pub short-still : shortPrograms (programsOf sheet) ≡ true → stillShort [] (linesFrom 0 sheet) ≡ true
-  short-still h = all-short (linesFrom 0 sheet) (z .nothing-leads) (ap shortPrograms same-programs ∙ h)
+  pub readable : fewPrograms (programsOf sheet) ≡ true → shortPrograms (programsOf sheet) ≡ true → Readable 0 [] (linesFrom 0 sheet)
+  unfolding fewPrograms
+  readable few short =
+      all-readable (linesFrom 0 sheet) (z .nothing-leads)
+      (leb-true (length (programs (linesFrom 0 sheet))) maxPrograms (ap fewPrograms same-programs ∙ few)) (ap shortPrograms same-programs ∙ short)
 
   -- the image's length
   pub image-long : headBytes (s .programs) + instructionBytes * s .instructions ≡ length (imageOfSheet sheet)
@@ -74,17 +78,24 @@ module _ {sheet : List ℕ} {s : Sizes} (z : Sized sheet s) where
   image-long =
       let bytes : instructionBytes * s .instructions ≡ length (bodies (linesFrom 0 sheet)) =
       ap (λ (x : Sizes). instructionBytes * x .instructions) (z .sizes-are) ∙ tally-bytes nothing (linesFrom 0 sheet) ∙ omega arith in
+      let ls = linesFrom 0 sheet in
       rw (← lines-all sheet)
-      (omega (arith, bytes, program-count, ap length (all-bodies (linesFrom 0 sheet) (z .nothing-leads)), length-image (ruleOf (linesFrom 0 sheet)) (programs (linesFrom 0 sheet))))
+      (omega (arith, bytes, program-count, ap length (all-bodies ls (z .nothing-leads)), length-image (ruleOf ls) (programs ls)))
 
-  -- where checks 2 to 4 have passed, there are not too many, and the image can be written where it has room
+  -- where checks 2 to 44 have passed, there are not too many, and the image can be written where it has room
   module _ (passed : programsRefusal (programsOf sheet) .number ≡ 0) where
     pub few-programs : s .programs ≤ maxPrograms
     few-programs = leb-true (s .programs) maxPrograms (few-are ∙ programs-shown (programsOf sheet) passed .0)
 
     pub writable : {out : List ℕ} → length (imageOfSheet sheet) ≤ length out → Writable sheet out (s .programs)
     writable h =
-        record { count = program-count; few = few-programs; nothing-leads = z .nothing-leads; short = image-short sheet passed; room = record { fits = omega arith } }
+        record {
+          count = program-count;
+          few = few-programs;
+          nothing-leads = z .nothing-leads;
+          short = image-short sheet passed;
+          room = record { fits = omega arith };
+        }
 
 -- ---- what the call says
 
@@ -115,17 +126,19 @@ module _ (sheet out : List ℕ) where
     module _ (passed : programsRefusal (programsOf sheet) .number ≡ 0) where
       sheet-passed : sheetRefusal sheet .number ≡ 0
       unfolding sheetRefusal
-      sheet-passed = number-of (sym (goes-on refusal.line (eq-eqb (badLine sheet) 0 good) (sym (none-is passed))))
+      sheet-passed = number-of (sym (goes-on refusal.line (eq-eqb (badLine sheet) 0 good) refl)) ∙ passed
 
       pub short-says : length out < length (imageOfSheet sheet) → ImageOfSays sheet out (Refused refusal.tooShort) out
       unfolding imageOfRefusal
       short-says h =
           refused-with refusal.tooShort (first-passes refl sheet-passed (fails _ (lt-leb (length (imageOfSheet sheet)) (length out) h))) (λ f. omega arith)
 
-      pub done-says : length (imageOfSheet sheet) ≤ length out → {n : ℕ} {out′ : List ℕ} → Wrote out 0 (imageOfSheet sheet) out′ n → ImageOfSays sheet out (Length n) out′
+      pub done-says : length (imageOfSheet sheet) ≤ length out → {n : ℕ} {out′ : List ℕ} → Wrote out 0 (imageOfSheet sheet) out′ n
+          → ImageOfSays sheet out (Length n) out′
       unfolding imageOfRefusal imageOfAnswer imageOfOutput
       done-says h w =
-          let e : refusal.none ≡ imageOfRefusal sheet out = first-passes refl sheet-passed (goes-on refusal.tooShort (le-leb (length (imageOfSheet sheet)) (length out) h) refl) in
+          let fits = le-leb (length (imageOfSheet sheet)) (length out) h in
+          let e : refusal.none ≡ imageOfRefusal sheet out = first-passes refl sheet-passed (goes-on refusal.tooShort fits refl) in
           record {
             answer = done-as (refusedBy sheet) e refl (ap Length (omega (arith, w .next)));
             output = done-as (λ x. out) e refl (w .bytes ∙ pasted-front out (imageOfSheet sheet));

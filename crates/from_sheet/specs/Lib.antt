@@ -1,3 +1,4 @@
 pub mod FromSheet
 pub mod Passes
+pub mod WrongLines
 pub mod Opened

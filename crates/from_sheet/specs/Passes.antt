@@ -1,13 +1,15 @@
 -- How a sheet is gone through, line by line: what each pass has still to do. Assumes nothing.
-use Prim.Native.Nat.{ℕ, _+_, _≤_, _<_, max}
+use Prim.Native.Nat.{ℕ, _+_, _-_, _≤_, _<_, max}
 use mathlib.Core.Path.{_≡_}
-use mathlib.Core.Bool.{Bool, cond, _&&_}
+use mathlib.Core.Bool.{Bool, true, cond, _&&_}
 use mathlib.Core.List.{List, [], _∷_, _++_, map}
 use lib.Dec.{eqb, leb}
 use lib.ListN.{length, take, drop}
 use Rattle.text.specs.Writing.{Wrote, Room}
 use Rattle.image.specs.Limits.{maxPrograms, maxProgramBytes, maxBytes}
-use Rattle.image.specs.Instruction.{programGood}
+use Rattle.image.specs.declared.Refusal.{Refusal}
+use Rattle.image.specs.Refusals.{none, after}
+use Rattle.image.specs.Instruction.{programFault}
 use Rattle.writer.specs.declared.Place.{Place}
 use Rattle.writer.specs.Joined.{number}
 use Rattle.sheet.specs.declared.Line.{Line}
@@ -18,7 +20,7 @@ use Rattle.from_sheet.specs.declared.counting.Found.{Found}
 use Rattle.from_sheet.specs.declared.counting.Sizes.{Sizes}
 use Rattle.from_sheet.specs.declared.counting.Survey.{Survey}
 use Rattle.from_sheet.specs.declared.checking.Reading.{Reading}
-use Rattle.from_sheet.specs.FromSheet.{imageOfSheet, shortPrograms, goodPrograms}
+use Rattle.from_sheet.specs.FromSheet.{imageOfSheet, shortPrograms}
 
 -- the lines from a place on, which is one part's beginning, and none behind the last
 unfoldable pub linesFrom : (at : ℕ) → List ℕ → List Line
@@ -105,26 +107,54 @@ readAfter bytes line.Program = []
 readAfter bytes (line.Instruction i) = bytes ++ bytesOf i
 readAfter bytes line.Other = bytes
 
--- where a new one begins, the one before it is looked at
-unfoldable pub goodAfter : (good : Bool) (bytes : List ℕ) → Line → Bool
-goodAfter good bytes (line.Rule r) = good
-goodAfter good bytes line.Program = good && programGood bytes
-goodAfter good bytes (line.Instruction i) = good
-goodAfter good bytes line.Other = good
+-- how many have begun; the one that is being read is the last of them
+unfoldable pub begunAfter : (begun : ℕ) → Line → ℕ
+begunAfter begun (line.Rule r) = begun
+begunAfter begun line.Program = begun + 1
+begunAfter begun (line.Instruction i) = begun
+begunAfter begun line.Other = begun
 
--- What that leaves, and what it needs: the bytes are the first of a room for the longest program.
+-- what has been found when this one is looked at too, by its number: before the first "program" there is none, and no byte to look at
+unfoldable pub foundWith : (found : Refusal) (begun : ℕ) (bytes : List ℕ) → Refusal
+foundWith found begun bytes = after found (programFault (begun - 1) bytes)
+
+-- where a new one begins, the one before it is looked at
+unfoldable pub foundAfter : (found : Refusal) (begun : ℕ) (bytes : List ℕ) → Line → Refusal
+foundAfter found begun bytes (line.Rule r) = found
+foundAfter found begun bytes line.Program = foundWith found begun bytes
+foundAfter found begun bytes (line.Instruction i) = found
+foundAfter found begun bytes line.Other = found
+
+-- What that needs: the room is one for the longest program, its bytes stand there, and no more have begun than there may be.
+pub record InRoom (room : List ℕ) (s : Reading) : Type 0 where
+  pub long : length room ≡ maxProgramBytes
+  pub used-few : s .used ≤ length room
+  pub begun-few : s .begun ≤ maxPrograms
+
+-- What it leaves.
 pub record Reads (before : List ℕ) (s : Reading) (l : Line) (after : List ℕ) (r : Reading) : Type 0 where
   pub read : take (r .used) after ≡ readAfter (take (s .used) before) l
-  pub told : r .good ≡ goodAfter (s .good) (take (s .used) before) l
+  pub begun-is : r .begun ≡ begunAfter (s .begun) l
+  pub found-is : r .found ≡ foundAfter (s .found) (s .begun) (take (s .used) before) l
   pub used-few : r .used ≤ length after
-  pub long : length after ≡ length before
+  pub same-room : length after ≡ length before
 
--- the programs that are still to come, and the one that is being read: none is too long, all are good
+-- the programs that are still to come, and the one that is being read: none is too long
 unfoldable pub stillShort : (bytes : List ℕ) → List Line → Bool
 stillShort bytes ls = leb (length (bytes ++ leading ls)) maxProgramBytes && shortPrograms (programs ls)
 
-unfoldable pub stillGood : (bytes : List ℕ) → List Line → Bool
-stillGood bytes ls = programGood (bytes ++ leading ls) && goodPrograms (programs ls)
+-- and with those that have begun they are not too many
+pub record Readable (begun : ℕ) (bytes : List ℕ) (ls : List Line) : Type 0 where
+  pub short : stillShort bytes ls ≡ true
+  pub few : begun + length (programs ls) ≤ maxPrograms
+
+-- the first bad instruction that is still to be found: of this one, and then of programs that are numbered from k on
+unfoldable pub faultsFrom : (k : ℕ) → List (List ℕ) → Refusal
+faultsFrom k [] = none
+faultsFrom k (p ∷ ps) = after (programFault k p) (faultsFrom (k + 1) ps)
+
+unfoldable pub stillFault : (begun : ℕ) (bytes : List ℕ) → List Line → Refusal
+stillFault begun bytes ls = after (programFault (begun - 1) (bytes ++ leading ls)) (faultsFrom begun (programs ls))
 
 -- ---- what the checks have shown of a sheet: it has so many programs, nothing stands before the first, and its image is not too long and has room
 pub record Writable (sheet out : List ℕ) (n : ℕ) : Type 0 where

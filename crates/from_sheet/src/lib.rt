@@ -1,18 +1,20 @@
-// The image of a sheet: document 02, ask 1.
+// The image of a sheet: document 02, ask 1; and of one that has none, which of its lines is to be mended: ask 2.
 ghost use mathlib.Core.Path.{_≡_};
-ghost use Prim.Native.Nat.{_≤_};
 ghost use lib.ListN.{length};
-ghost use Rattle.image.specs.Limits.{maxPrograms};
-ghost use Rattle.from_sheet.specs.FromSheet.{imageOfSheet, programsOf, programsRefusal, ImageOfSays};
+ghost use Rattle.from_sheet.specs.FromSheet.{imageOfSheet, programsOf, programsRefusal, sheetRefusal, ImageOfSays};
 ghost use Rattle.from_sheet.specs.Passes.{Sized};
 
 mod checking;
 mod counting;
+mod finding;
 mod writing;
+
+pub use finding::WrongLine;
+pub use finding::wrong_line;
 
 const NEWLINE: u8 = b'\n';
 
-// Checks 2, 3 and 4.
+// Checks 2, 3 and 41 to 44.
 fn programs_refusal(sheet: &[u8], sizes: counting::Sizes) -> image::Refusal
     requires { ⌜ Sized (now sheet) sizes ⌝ }
     ensures { λ r. ⌜ r ≡ programsRefusal (programsOf (now (sheet .entry))) ⌝ }
@@ -23,10 +25,19 @@ fn programs_refusal(sheet: &[u8], sizes: counting::Sizes) -> image::Refusal
     if image::Image::INSTRUCTIONS < sizes.longest {
         return image::Refusal::OFFSETS;
     }
-    if !checking::code_good(sheet) {
-        return image::Refusal::INSTRUCTION;
+    checking::code_fault(sheet)
+}
+
+// The refusal of a sheet: 51, 2, 3, 41 to 44.
+pub fn sheet_refusal(sheet: &[u8]) -> image::Refusal
+    ensures { λ r. ⌜ r ≡ sheetRefusal (now (sheet .entry)) ⌝ }
+{
+    let found = counting::survey_of(sheet);
+    if found.bad != 0 {
+        return image::Refusal::LINE;
     }
-    image::Refusal::NONE
+    let sizes = found.sizes;
+    programs_refusal(sheet, sizes)
 }
 
 // The image's length, for check 10.

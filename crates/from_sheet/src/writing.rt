@@ -4,7 +4,7 @@ ghost use Prim.Native.Nat.{_+_, _≤_, _<_};
 ghost use lib.ListN.{length};
 ghost use Rattle.text.specs.Writing.{Wrote, Room};
 ghost use Rattle.image.specs.Limits.{maxBytes};
-ghost use Rattle.sheet.specs.Sheet.{bytesOf, linesOf, ruleOf};
+ghost use Rattle.sheet.specs.Sheet.{bytesOf, ruleOf};
 ghost use Rattle.from_sheet.specs.FromSheet.{imageOfSheet};
 ghost use Rattle.from_sheet.specs.Passes.{linesFrom, bodyOf, bodies, offsetAt, offsetsFrom, Offset, Writable};
 use crate::counting::next_line;
@@ -54,7 +54,7 @@ fn put_offsets(out: &mut [u8], at: usize, sheet: &[u8], first: usize) -> usize
 }
 
 // The bytes of a line's instruction.
-fn put_body(out: &mut [u8], at: usize, line: sheet::Line) -> usize
+pub fn put_body(out: &mut [u8], at: usize, line: sheet::Line) -> usize
     requires { ⌜ Room (now out) at (bodyOf line) ⌝ }
     ensures { λ r. ⌜ Wrote (now (out .entry)) at (bodyOf line) (now (out .exit)) r ⌝ }
 {

@@ -1,5 +1,5 @@
-// Earns each row of the refusal table that a sheet or its image can earn (document 02, ask 1), on both sides, in their order, and prints what was asked
-// and what came back. Each line of the output is one call.
+// Earns each row of the refusal table that a sheet or its image can earn (document 02, asks 1 and 2), on both sides, in their order, and prints what was
+// asked and what came back. Each line of the output is one call.
 
 // Room for the image of a sheet of 64 programs without instructions, and of one program of 32.
 const ROOM: usize = 136;
@@ -35,12 +35,19 @@ fn print_number(words: &[u8], number: u64) {
     io::print_decimal(1, number);
 }
 
+// The number, and which instruction is bad: 0 and 0 where it is none.
+fn print_refusal(refusal: sheetbendle::Refusal) {
+    print_number(b": ", refusal.number as u64);
+    print_number(b", program ", refusal.program as u64);
+    print_number(b", instruction ", refusal.instruction as u64);
+}
+
 fn print_answer(asked: &[u8], answer: sheetbendle::Written) {
     io::write_all(1, asked);
     match answer {
         sheetbendle::Written::Length(length) => print_number(b": 0, length ", length as u64),
         sheetbendle::Written::BadLine(line) => print_number(b": 51, line ", line as u64),
-        sheetbendle::Written::Refused(refusal) => print_number(b": ", refusal.number as u64),
+        sheetbendle::Written::Refused(refusal) => print_refusal(refusal),
     }
     io::write_all(1, b"\n");
 }
@@ -102,6 +109,32 @@ fn instructions() {
     );
     image(b"a skip past the end", b"rule 1\nprogram\nskipless 0 0 1\n");
     image(b"a skip to the end", b"rule 1\nprogram\nskipless 0 0 0\n");
+}
+
+fn places() {
+    image(
+        b"a register over 7 in program 1, instruction 2",
+        b"rule 1\nprogram\nprogram\nend 0 0 0\nend 0 0 0\nset 8 0 0\nprogram\n",
+    );
+    image(
+        b"an unused byte that is not 0 in program 2, instruction 0",
+        b"rule 1\nprogram\nprogram\nend 0 0 0\nprogram\nload 0 0 1\n",
+    );
+    image(
+        b"a skip past the end in program 0, instruction 1",
+        b"rule 1\nprogram\nend 0 0 0\nskipequal 0 0 2\nend 0 0 0\nprogram\n",
+    );
+    image(
+        b"a skip past the end, and then a register over 7",
+        b"rule 1\nprogram\nend 0 0 0\nskipequal 0 0 9\nset 8 0 0\nprogram\nset 8 0 0\n",
+    );
+    image(
+        b"a register over 7 and an unused byte that is not 0",
+        b"rule 1\nprogram\nload 8 0 1\n",
+    );
+}
+
+fn rooms() {
     short_image(
         b"an output one byte short",
         b"rule 1\nprogram\nprogram\nend 0 0 0\n",
@@ -127,6 +160,10 @@ fn sheets() {
         b"\x01\x00\x01\x00\x08\x00\x0c\x00\x09\x00\x00\x00",
     );
     sheet(
+        b"the sheet of an image with a register over 7 in program 1, instruction 1",
+        b"\x02\x00\x01\x00\x0a\x00\x0a\x00\x12\x00\x00\x00\x00\x00\x02\x08\x00\x00",
+    );
+    sheet(
         b"a sheet that does not fit",
         b"\x01\x00\x01\x00\x08\x00\x0c\x00\x03\x00\x00\x00",
     );
@@ -140,5 +177,7 @@ fn main() {
     lines();
     sizes();
     instructions();
+    places();
+    rooms();
     sheets();
 }

@@ -1,5 +1,5 @@
 -- What the checks of a sheet show, and what is enough for them. Assumes nothing.
-use mathlib.Core.Path.{_≡_, refl, sym}
+use mathlib.Core.Path.{_≡_, refl, sym, _∙_}
 use mathlib.Core.Bool.{true}
 use mathlib.Core.List.{List, [], _∷_}
 use Prim.Native.Nat.{ℕ, _≤_}
@@ -14,7 +14,8 @@ use Rattle.image.specs.Instruction.{programGood}
 use Rattle.image.proofs.Refusing.{goes-on, none-fails, number-of}
 use Rattle.writer.proofs.Good.{All}
 use Rattle.sheet.specs.Sheet.{badLine}
-use Rattle.from_sheet.specs.FromSheet.{programsOf, all, fewPrograms, shortPrograms, goodPrograms, programsRefusal, sheetRefusal}
+use Rattle.from_sheet.specs.FromSheet.{programsOf, all, fewPrograms, shortPrograms, programsFault, programsRefusal, sheetRefusal}
+use Rattle.from_sheet.proofs.Faults.{programs-pass}
 use Rattle.round_trip.proofs.Programs.{Whole}
 
 -- ---- the programs of a sheet
@@ -24,17 +25,17 @@ unfolding shortPrograms all
 all-short [] h = refl
 all-short (p ∷ ps) h = both-and (le-leb (length p) maxProgramBytes (h .0 .short)) (all-short ps (h .1))
 
-all-good : (ps : List (List ℕ)) → All ps → goodPrograms ps ≡ true
-unfolding goodPrograms all
+all-good : (ps : List (List ℕ)) → All ps → all programGood ps ≡ true
+unfolding all
 all-good [] h = refl
 all-good (p ∷ ps) h = both-and (h .0 .code) (all-good ps (h .1))
 
-all-fine : (ps : List (List ℕ)) → Whole ps → shortPrograms ps ≡ true → goodPrograms ps ≡ true → All ps
-unfolding shortPrograms goodPrograms all
+all-fine : (ps : List (List ℕ)) → Whole ps → shortPrograms ps ≡ true → all programGood ps ≡ true → All ps
+unfolding shortPrograms all
 all-fine [] w s g = tt
 all-fine (p ∷ ps) w s g =
     let x = and-both (leb (length p) maxProgramBytes) (shortPrograms ps) s in
-    let y = and-both (programGood p) (goodPrograms ps) g in
+    let y = and-both (programGood p) (all programGood ps) g in
     (record { whole-instructions = w .0; short = leb-true _ _ (x .0); code = y .0 }, all-fine ps (w .1) (x .1) (y .1))
 
 -- a sheet that is not refused: no line is, and its programs are few and good
@@ -50,13 +51,14 @@ passed sheet w e =
     let l = none-fails (eqb (badLine sheet) 0) refusal.line _ (λ z. omega arith) e in
     let f = none-fails (fewPrograms ps) refusal.header _ (λ z. omega arith) (l .1) in
     let s = none-fails (shortPrograms ps) refusal.offsets _ (λ z. omega arith) (f .1) in
-    let g = none-fails (goodPrograms ps) refusal.instruction _ (λ z. omega arith) (s .1) in
-    record { lines = eqb-true _ _ (l .0); few = leb-true _ _ (f .0); fine = all-fine ps w (s .0) (g .0) }
+    let g = sym (programs-pass ps) ∙ eq-eqb (programsFault ps .number) 0 (s .1) in
+    record { lines = eqb-true _ _ (l .0); few = leb-true _ _ (f .0); fine = all-fine ps w (s .0) g }
 
 pub enough : (sheet : List ℕ) → Passed sheet → sheetRefusal sheet .number ≡ 0
 unfolding sheetRefusal programsRefusal fewPrograms
 enough sheet p =
     let ps = programsOf sheet in
+    let good : programsFault ps .number ≡ 0 = eqb-true _ _ (programs-pass ps ∙ all-good ps (p .fine)) in
     number-of (sym (goes-on refusal.line (eq-eqb (badLine sheet) 0 (p .lines))
-    (goes-on refusal.header (le-leb (length ps) maxPrograms (p .few))
-    (goes-on refusal.offsets (all-short ps (p .fine)) (goes-on refusal.instruction (all-good ps (p .fine)) refl)))))
+    (goes-on refusal.header (le-leb (length ps) maxPrograms (p .few)) (goes-on refusal.offsets (all-short ps (p .fine)) refl))))
+    ∙ good

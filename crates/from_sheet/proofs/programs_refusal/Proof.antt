@@ -1,12 +1,12 @@
--- At each return the checks that led there have passed, and the last of them fails. Assumes nothing.
-use mathlib.Core.Path.{_≡_, refl, sym, _∙_}
+-- At each return the checks that led there have passed; the last of them fails, or what is left is the first bad instruction. Assumes nothing.
+use mathlib.Core.Path.{_≡_, sym, _∙_}
 use mathlib.Core.Bool.{true}
 use borrow.Author.Tests.{le-leb, lt-leb}
 use denote.Ref.{now}
 use Rattle.image.specs.Limits.{maxPrograms, maxInstructions}
-use Rattle.image.proofs.Refusing.{fails, goes-on, refuses, accepts}
+use Rattle.image.proofs.Refusing.{fails, goes-on}
 use Rattle.from_sheet.specs.FromSheet.{programsOf, fewPrograms, shortPrograms, programsRefusal}
-use Rattle.from_sheet.proofs.Says.{few-are, short-are, good-are, short-still}
+use Rattle.from_sheet.proofs.Says.{few-are, short-are, fault-is, readable}
 use Rattle.from_sheet.proofs.programs_refusal.Statement.{statement}
 use Rattle.from_sheet.proofs.programs_refusal.Tie as tie
 
@@ -34,22 +34,14 @@ returns-2 c =
     let s = start-of e in
     goes-on _ (are-few e) (fails _ (sym (short-are (s .pre)) ∙ lt-leb (s .args .sizes .longest) maxInstructions (c .if2 .taken)))
 
-code-good-requires : tie.Need-code-good-requires
-code-good-requires c κs = short-still (start-of (counted-of c) .pre) (are-short c)
+code-fault-requires : tie.Need-code-fault-requires
+code-fault-requires c κs = readable (start-of (counted-of c) .pre) (are-few (counted-of c)) (are-short c)
 
 returns-3 : tie.Need-returns-3
 unfolding programsRefusal
 returns-3 c =
-    let e = c .before .before in
-    let s = start-of (counted-of e) in
-    goes-on _ (are-few (counted-of e)) (goes-on _ (are-short e) (refuses _ (c .before .code-good .ensures ∙ good-are (s .pre)) (c .if3 .taken)))
-
-returns-4 : tie.Need-returns-4
-unfolding programsRefusal
-returns-4 c =
-    let e = c .before .before in
-    let s = start-of (counted-of e) in
-    goes-on _ (are-few (counted-of e)) (goes-on _ (are-short e) (accepts _ (c .before .code-good .ensures ∙ good-are (s .pre)) (c .if3 .left) refl))
+    let e = c .before in
+    goes-on _ (are-few (counted-of e)) (goes-on _ (are-short e) (c .code-fault .ensures ∙ fault-is (start-of (counted-of e) .pre)))
 
 pub programs-refusal-spec : {M : Type 1} → statement M
 programs-refusal-spec =
@@ -57,6 +49,5 @@ programs-refusal-spec =
     (tie.spec
     returns
     returns-2
-    code-good-requires
-    returns-3
-    returns-4)
+    code-fault-requires
+    returns-3)
