@@ -6,4 +6,7 @@ fn main() {
     let mut page = results::room();
     let end = report::batch_page(&bytes[..n], &mut page);
     output::print(b"batch", &page[0..end]);
+    let mut words = refused::where_room();
+    let said = report::said(&bytes[..n], &mut words);
+    output::say(&words[0..said]);
 }

@@ -1,3 +1,4 @@
 pub mod Pages
+pub mod Words
 pub mod Cases
 pub mod Unique

@@ -3,7 +3,7 @@ use Prim.Native.Nat.{ℕ, _≤_, _<_}
 use mathlib.Core.Path.{_≡_, refl, sym, subst, _∙_}
 use mathlib.Core.Logic.{_⊎_, inl, inr}
 use mathlib.Core.Bool.{Bool, true, false, cond}
-use mathlib.Core.List.{List, _++_}
+use mathlib.Core.List.{List, [], _++_}
 use native.Mathlib.Omega.{arith}
 use lib.Dec.{eqb}
 use lib.ListN.{length, getD, drop, length-append}
@@ -17,11 +17,15 @@ use Rattle.image.specs.Refusals as refusal
 use Rattle.image.specs.Refusals.{check, passes, unless}
 use Rattle.image.specs.Image.{refusalOf}
 use Rattle.image.proofs.Laws.{refusal-few}
-use Rattle.image.proofs.Refusing.{none-is, none-fails, goes-on, number-of, first-refuses, first-passes, unless-refused, unless-done, refused-as}
+use Rattle.image.proofs.Faults.{code-number}
+use Rattle.image.proofs.Places.{none-is}
+use Rattle.image.proofs.Refusing.{none-fails, goes-on, check-either, number-of, first-refuses, first-passes, unless-refused, unless-done, refused-as}
 use Rattle.sheet.specs.declared.Written.{Written}
 use Rattle.sheet.specs.declared.Written.the-variants.{Refused, BadLine, Length}
 use Rattle.sheet.specs.Sheet.{badLine}
-use Rattle.from_sheet.specs.FromSheet.{programsOf, programsRefusal, imageOfSheet, sheetRefusal, imageOfRefusal, refusedBy, imageOfAnswer, imageOfOutput, ImageOfSays}
+use Rattle.from_sheet.specs.FromSheet.{programsOf, programsFault, programsRefusal, imageOfSheet, sheetRefusal}
+use Rattle.from_sheet.specs.FromSheet.{imageOfRefusal, refusedBy, imageOfAnswer, imageOfOutput, ImageOfSays}
+use Rattle.from_sheet.proofs.Faults.{sheet-well}
 use Rattle.from_sheet.proofs.Says.{image-short}
 use Rattle.from_image.specs.FromImage.{sheetOfImage}
 use Rattle.from_image.specs.Longest.{longestSheet}
@@ -46,18 +50,21 @@ never-too-short sheet out room = go (known (passes (sheetRefusal sheet)))
         let none = eqb-true (sheetRefusal sheet .number) 0 e in
         let p = none-fails (eqb (badLine sheet) 0) refusal.line (programsRefusal (programsOf sheet)) (λ z. omega arith) none in
         let fits = le-leb (length (imageOfSheet sheet)) (length out) (omega (arith, image-short sheet (p .1))) in
-        sym (none-is none ∙ first-passes refl none (goes-on refusal.tooShort fits refl))
+        sym (none-is (sheet-well sheet) none ∙ first-passes refl none (goes-on refusal.tooShort fits refl))
     go (inr e) = sym (first-refuses _ refl (eqb-false (sheetRefusal sheet .number) 0 e))
 
 -- no refusal of a sheet has a larger number than 51, and where a line is bad it is 51
-checked-few : (b : Bool) (gives rest : Refusal) → gives .number ≤ 51 → rest .number ≤ 51 → check b gives rest .number ≤ 51
-unfolding check
-checked-few true gives rest g r = r
-checked-few false gives rest g r = g
+abbrev Few : Refusal → Type 0
+Few r = r .number ≤ 51
 
-few : (sheet : List ℕ) → sheetRefusal sheet .number ≤ 51
-unfolding sheetRefusal programsRefusal
-few sheet = checked-few _ _ _ (omega arith) (checked-few _ _ _ (omega arith) (checked-few _ _ _ (omega arith) (checked-few _ _ _ (omega arith) (omega arith))))
+few : (sheet : List ℕ) → Few (sheetRefusal sheet)
+unfolding sheetRefusal programsRefusal programsFault
+few sheet =
+    let ps = programsOf sheet in
+    check-either Few _ (omega arith)
+    (check-either Few _ (omega arith)
+    (check-either Few _ (omega arith)
+    (code-number (λ p. getD ps p []) (λ n. n ≤ 51) (omega arith) (omega arith) (omega arith) (omega arith) (omega arith) (length ps))))
 
 bad-is : (sheet : List ℕ) → eqb (badLine sheet) 0 ≡ false → sheetRefusal sheet ≡ refusal.line
 unfolding sheetRefusal check
@@ -103,12 +110,12 @@ module _ (sheet out : List ℕ) where
 
 -- a refusal's line has room, and then stands alone
 module _ (sheet : List ℕ) {out out′ : List ℕ} (room : maxBytes ≤ length out) where
-  pub refusal-room : {r : Refusal} → Tells sheet out (Refused r) out′ → Room out′ 0 (refusedLine r)
-  refusal-room {r} t = record { fits = rw (t .1) (omega (arith, refused-short r (omega (arith, t .2)))) }
+  pub refusal-room : (r : Refusal) → Tells sheet out (Refused r) out′ → Room out′ 0 (refusedLine r)
+  refusal-room r t = record { fits = rw (t .1) (omega (arith, refused-short r (omega (arith, t .2)))) }
 
-  pub refusal-says : {r : Refusal} {out″ : List ℕ} {n : ℕ} → Tells sheet out (Refused r) out′ → Wrote out′ 0 (refusedLine r) out″ n
+  pub refusal-says : (r : Refusal) {out″ : List ℕ} {n : ℕ} → Tells sheet out (Refused r) out′ → Wrote out′ 0 (refusedLine r) out″ n
       → PageSays (imagePage sheet) out n out″
-  refusal-says t w = rw (t .0) (left-says (t .1) w)
+  refusal-says r t w = rw (t .0) (left-says (t .1) w)
 
   module _ {line : ℕ} (wide : line < 18446744073709551616) where
     pub line-room : Tells sheet out (BadLine line) out′ → Room out′ 0 (refusedAtLine refusal.line line)

@@ -2,8 +2,8 @@
 use Rattle.refused.specs.Opened as refused
 use Rattle.from_sheet.specs.Opened as from-sheet
 use Rattle.from_image.specs.Opened as from-image
-use Rattle.converted.specs.Converted.{sheetRefused, imagePage, sheetPage}
+use Rattle.converted.specs.Converted.{sheetRefused, imagePage, sheetSaid, sheetPage}
 
 unfoldable pub opened : Unit {0}
-unfolding refused.opened from-sheet.opened from-image.opened sheetRefused imagePage sheetPage
+unfolding refused.opened from-sheet.opened from-image.opened sheetRefused imagePage sheetSaid sheetPage
 opened = tt

@@ -1,10 +1,12 @@
-// What the programs `to_image` and `to_sheet` print (document 02, ask 1): the image or the sheet, or the line of a refusal as the whole output.
+// What the programs `to_image` and `to_sheet` print (document 02, ask 1): the image or the sheet, or the line of a refusal as the whole output. And what
+// `to_image` says beside it (ask 2): which line of the sheet is bad; of an image `refused` says it.
 ghost use mathlib.Core.Path.{_≡_};
 ghost use Prim.Native.Nat.{_+_, _≤_};
 ghost use lib.ListN.{length, replicate};
 ghost use Rattle.image.specs.Limits.{maxBytes};
 ghost use Rattle.from_image.specs.Longest.{longestSheet};
-ghost use Rattle.converted.specs.Converted.{longestInput, imagePage, sheetPage};
+ghost use Rattle.refused.specs.Where.{mostWhereAtLine};
+ghost use Rattle.converted.specs.Converted.{longestInput, imagePage, sheetSaid, sheetPage};
 ghost use Rattle.text.specs.Writing.{PageSays};
 
 // The longest input that the two programs take, and what they say of a longer one.
@@ -44,6 +46,23 @@ pub fn image_page(sheet: &[u8], out: &mut [u8]) -> usize
         }
         sheet::Written::Length(length) => length,
     }
+}
+
+// What it says of a sheet on standard error: the line and the place of its bad instruction, or nothing.
+pub fn sheet_said(sheet: &[u8], out: &mut [u8]) -> usize
+    requires { ⌜ mostWhereAtLine ≤ length (now out) ⌝ }
+    ensures { λ r. ⌜ PageSays (sheetSaid (now (sheet .entry))) (now (out .entry)) r (now (out .exit)) ⌝ }
+{
+    let refusal = from_sheet::sheet_refusal(sheet);
+    if !refused::says_where(refusal.number) {
+        return 0;
+    }
+    let wrong = from_sheet::wrong_line(
+        sheet,
+        refusal.program as usize,
+        refusal.instruction as usize,
+    );
+    refused::put_where_at(out, 0, refusal, wrong.line, wrong.byte)
 }
 
 // What `to_sheet` prints of an image.

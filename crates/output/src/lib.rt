@@ -1,4 +1,4 @@
-// What a program says: a page on standard output, written once, and complaints on standard error.
+// What a program says: a page on standard output, written once, and complaints and other words on standard error.
 
 const OUT: i32 = 1;
 
@@ -10,6 +10,11 @@ pub fn complain(program: &[u8], words: &[u8]) {
     io::write_all(ERROR, b": ");
     io::write_all(ERROR, words);
     io::write_all(ERROR, b"\n");
+}
+
+// Words on standard error as they are; nothing where there are none.
+pub fn say(words: &[u8]) {
+    io::write_all(ERROR, words);
 }
 
 // All that the program prints, written once; where that fails, a complaint.

@@ -45,7 +45,7 @@ use Rattle.reasons.proofs.Pages.{place-low}
 -- ---- a refusal's number
 
 abbrev SmallRefusal : Refusal → Type 0
-SmallRefusal r = r .number ≤ 15
+SmallRefusal r = r .number ≤ 44
 
 checked-small : (b : Bool) (gives rest : Refusal) → SmallRefusal gives → SmallRefusal rest → SmallRefusal (check b gives rest)
 unfolding check

@@ -1,2 +1,3 @@
 pub mod Refused
+pub mod Where
 pub mod Opened

@@ -1,11 +1,12 @@
--- Document 01, "Bench sheet", tried by computation on the definition of what `batch` prints: whole inputs, byte by byte. Assumes nothing.
+-- Document 01, "Bench sheet", tried by computation on the definition of what `batch` prints, and of what it says beside it: whole inputs, byte by byte. Assumes
+-- nothing.
 use Prim.Native.Nat.{ℕ}
 use mathlib.Core.Path.{_≡_, refl}
 use mathlib.Core.List.{List, [], _∷_, _++_, map}
-use lib.ListN.{replicate}
+use lib.ListN.{drop, replicate}
 use Rattle.text.specs.Ascii.{ascii}
 use Rattle.image.specs.Bench.{empty}
-use Rattle.report.specs.Batch.{batchPage}
+use Rattle.report.specs.Batch.{batchPage, said}
 use Rattle.report.specs.Opened.{opened}
 
 -- "Case 2 with T=2 prints:"
@@ -35,12 +36,18 @@ largest : batchPage (0 ∷ 1 ∷ replicate 1024 0) ≡ ascii "refused 1\n"
 unfolding opened
 largest = refl
 
--- "14. A skip that lands on m is good; one further gives 4."
+-- "14. A skip that lands on m is good; one further gives 4", which is now 44; and where that is
 abbrev case-14b-bytes : List ℕ
 case-14b-bytes =
     3 ∷ 0 ∷ 1 ∷ 0 ∷ 0 ∷ 0 ∷ 2 ∷ 0 ∷ 0 ∷ 0 ∷ 3 ∷ 0 ∷ 0 ∷ 0 ∷ 1 ∷ 0 ∷ 1 ∷ 0 ∷ 8 ∷ 0 ∷ 20 ∷ 0 ∷ 1 ∷ 1 ∷ 0 ∷ 1 ∷ 7 ∷ 0 ∷ 1 ∷ 2 ∷ 3 ∷ 0 ∷ 1 ∷
     0 ∷ []
 
-case-14b : batchPage case-14b-bytes ≡ ascii "refused 4\n"
+case-14b : (batchPage case-14b-bytes ≡ ascii "refused 44\n") × (said case-14b-bytes ≡ ascii "program 0, instruction 1: a skip by 2 lands past the end\n")
 unfolding opened
-case-14b = refl
+case-14b = (refl, refl)
+
+-- nothing is said where all is well, of a prefix, nor of an image that is refused as a whole; a bad instruction behind a prefix that is not good is not
+-- looked at
+nothing-is-said : map said (case-2-bytes ∷ [] ∷ (0 ∷ 0 ∷ empty) ∷ (1 ∷ 0 ∷ 9 ∷ 0 ∷ 0 ∷ 0 ∷ []) ∷ (0 ∷ 0 ∷ drop 14 case-14b-bytes) ∷ []) ≡ replicate 5 []
+unfolding opened
+nothing-is-said = refl

@@ -1,11 +1,12 @@
--- Laws of an input and its page: what the tests of the prefix and the run of the batch make of it. Assumes nothing.
+-- Laws of an input, its page and what is said beside it: what the tests of the prefix and the run of the batch make of it. Assumes nothing.
 use mathlib.Core.Path.{_≡_, refl, sym, ap, _∙_}
-use mathlib.Core.List.{List, _++_}
+use mathlib.Core.List.{List, [], _++_}
 use Prim.Native.Nat.{ℕ, _≤_, _<_}
 use native.Mathlib.Omega.{arith}
 use lib.ListN.{length, take, length-append}
 use lib.Seq.{take-at}
-use Rattle.text.specs.Writing.{Room}
+use Rattle.text.specs.Writing.{Room, PageSays}
+use Rattle.text.proofs.Writing.{wrote-none, page-says}
 use Rattle.image.specs.declared.Refusal.{Refusal}
 use Rattle.image.specs.Refusals as refusal
 use Rattle.image.specs.Image.{countOf}
@@ -15,9 +16,10 @@ use Rattle.area.proofs.Checks.{measured}
 use Rattle.input.specs.Prefix.{tableIn, imageIn, prefixGood, cellsOf}
 use Rattle.input.proofs.Prefixes.{Whole, cells-none, cells-good, cells-whole}
 use Rattle.refused.specs.Refused.{refusedLine, mostRefused}
+use Rattle.refused.specs.Where.{imageWhere}
 use Rattle.refused.proofs.Lines.{refused-short}
 use Rattle.results.proofs.Short.{Small, check-small, open-small}
-use Rattle.report.specs.Batch.{lent, workArea, tableOf, imageOf, inputRefusal, batchOf, pageOf, pageMost}
+use Rattle.report.specs.Batch.{lent, workArea, tableOf, imageOf, inputRefusal, batchOf, pageOf, pageMost, said}
 use Rattle.report.specs.declared.Page.{Page}
 use Rattle.report.specs.declared.Page.the-variants.{Results, Reasons}
 use Rattle.report.specs.Runs.{Runs, Refuses, Settles}
@@ -98,3 +100,16 @@ module _ (input : List ℕ) {cells words : ℕ} {tables areas : List ℕ} (h : S
   -- the area is measured for the image and the table, and the table has a cell
   pub settled-measured : Measured (length (take m tables)) (countOf image) (take n areas) × (0 < length (take m tables))
   settled-measured = (measured _ _ _ settled-checked (countOf image) refl, settled-checked .cells-some)
+
+-- ---- what is said beside it
+
+module _ (input : List ℕ) {cells : ℕ} (e : cells ≡ cellsOf input) where
+  pub nothing-said : cells ≡ 0 → (out : List ℕ) → PageSays (said input) out 0 out
+  unfolding said
+  nothing-said z out =
+      let nothing : said input ≡ [] = rw (cells-none input (sym e ∙ z)) in
+      rw nothing (page-says (wrote-none out 0))
+
+  pub said-is : (cells ≡ 0 → ⊥) → {image : List ℕ} → image ≡ imageIn input cells → said input ≡ imageWhere image
+  unfolding said
+  said-is some i = rw (cells-good input cells e some) (ap imageWhere (ap (imageIn input) (sym (cells-whole input cells e some .named)) ∙ sym i))

@@ -1,6 +1,8 @@
--- Document 01, "Bench sheet": what the program `batch` prints, for every input; and what `why` does (document 02, ask 3). Assumes nothing.
+-- Document 01, "Bench sheet": what the program `batch` prints, for every input; what `why` does (document 02, ask 3); and what both say on standard error
+-- (document 02, ask 2). Assumes nothing.
 use Prim.Native.Nat.{ℕ, zero, suc}
-use mathlib.Core.List.{List}
+use mathlib.Core.Bool.{cond}
+use mathlib.Core.List.{List, []}
 use lib.ListN.{length, replicate}
 use Rattle.image.specs.declared.Refusal.{Refusal}
 use Rattle.image.specs.Refusals as refusal
@@ -14,6 +16,7 @@ use Rattle.steps.specs.Settling.{settleTable, settleArea}
 use Rattle.input.specs.Prefix.{cellsNamed, tableIn, imageIn, prefixGood}
 use Rattle.results.specs.Listing.{listing, mostListing}
 use Rattle.refused.specs.Refused.{refusedLine}
+use Rattle.refused.specs.Where.{imageWhere}
 use Rattle.reasons.specs.Reasons.{reasonsText, longestPage}
 use Rattle.report.specs.declared.Page.{Page}
 use Rattle.report.specs.declared.Page.the-variants.{Results, Reasons}
@@ -90,3 +93,7 @@ batchPage = pageOf (pageText Results)
 
 abbrev pub reasonsPage : (input : List ℕ) → List ℕ
 reasonsPage = pageOf (pageText Reasons)
+
+-- what both say of it on standard error: the place of its image's bad instruction, where its prefix is good and there is one
+unfoldable pub said : (input : List ℕ) → List ℕ
+said input = cond (prefixGood input) (imageWhere (imageOf input)) []

@@ -1,5 +1,5 @@
 // The work of the programs `batch` (document 01, "Bench sheet") and `why` (document 02, ask 3): a batch is run from its input, and then a page is made of
-// the image, the table and the area.
+// the image, the table and the area. Which instruction is bad, both say beside it (document 02, ask 2).
 ghost use mathlib.Core.Path.{_≡_};
 ghost use Prim.Native.Nat.{_≤_, _<_};
 ghost use lib.ListN.{length};
@@ -12,7 +12,8 @@ ghost use Rattle.prefix.specs.Prefix.{prefixBytes};
 ghost use Rattle.input.specs.Prefix.{tableIn};
 ghost use Rattle.results.specs.Listing.{listing, mostListing};
 ghost use Rattle.reasons.specs.Reasons.{reasonsText, longestPage};
-ghost use Rattle.report.specs.Batch.{lent, gatherFirst, settleFirst, pageOf, pageText, pageMost, batchPage, reasonsPage};
+ghost use Rattle.refused.specs.Where.{mostWhere};
+ghost use Rattle.report.specs.Batch.{lent, gatherFirst, settleFirst, pageOf, pageText, pageMost, batchPage, reasonsPage, said};
 ghost use Rattle.report.specs.Runs.{Leaves, RunsIn, programsIn, Fits, Runs, RanSays};
 
 // What comes of an input: a refusal, or how many cells and words of what was lent are the table and the area of its settled batch.
@@ -189,4 +190,17 @@ pub fn reasons_page(input: &[u8], out: &mut [u8]) -> usize
     ensures { λ r. ⌜ PageSays (reasonsPage (now (input .entry))) (now (out .entry)) r (now (out .exit)) ⌝ }
 {
     make_page(Page::Reasons, input, out)
+}
+
+// What both say of an input on standard error: the place of its image's bad instruction, or nothing.
+pub fn said(input: &[u8], out: &mut [u8]) -> usize
+    requires { ⌜ mostWhere ≤ length (now out) ⌝ }
+    ensures { λ r. ⌜ PageSays (said (now (input .entry))) (now (out .entry)) r (now (out .exit)) ⌝ }
+{
+    let cells = input::cells_of(input);
+    if cells == 0 {
+        return 0;
+    }
+    let image = input::image_behind(input, cells);
+    refused::image_where(image, out)
 }

@@ -13,7 +13,8 @@ use Rattle.text.proofs.Fillings.{filled-short, texts-short}
 use Rattle.image.specs.declared.Refusal.{Refusal}
 use Rattle.image.specs.Limits.{maxPrograms, maxCells}
 use Rattle.image.specs.Refusals.{check}
-use Rattle.image.specs.Image.{countOf, secondRule, sizeGood, headerGood, headerOf, offsetsGood, codeGood, refusalOf}
+use Rattle.image.specs.Image.{countOf, secondRule, refusalOf}
+use Rattle.image.proofs.Laws.{refusal-few}
 use Rattle.image.proofs.Refusing.{unless-either}
 use Rattle.slot.specs.declared.Group.the-variants.{Committed}
 use Rattle.slot.specs.States.{waiting, gathered, rejected, faulted, committed}
@@ -42,17 +43,11 @@ unfolding check
 check-small true gives rest g r = r
 check-small false gives rest g r = g
 
-image-small : (image : List ℕ) → Small (refusalOf image)
-unfolding refusalOf
-image-small image =
-    check-small (sizeGood image) _ _ (omega arith) (check-small (headerGood (headerOf image)) _ _ (omega arith)
-    (check-small (offsetsGood image) _ _ (omega arith) (check-small (codeGood image) _ _ (omega arith) (omega arith))))
-
 module _ (image t a : List ℕ) where
   pub open-small : Small (openRefusal image t a)
   unfolding openRefusal roomRefusal
   open-small =
-      check-small _ (refusalOf image) _ (image-small image)
+      check-small _ (refusalOf image) _ (omega (arith, refusal-few image))
       (check-small (tableGood t) _ _ (omega arith) (check-small (sizeIs (length t) (countOf image) a) _ _ (omega arith) (omega arith)))
 
   ended-small : Small (endedRefusal image t a)

@@ -10,4 +10,7 @@ fn main() {
     let mut page = converted::image_room();
     let end = converted::image_page(&bytes[..n], &mut page);
     output::print(b"to_image", &page[0..end]);
+    let mut words = refused::where_at_room();
+    let said = converted::sheet_said(&bytes[..n], &mut words);
+    output::say(&words[0..said]);
 }

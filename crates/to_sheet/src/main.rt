@@ -10,4 +10,7 @@ fn main() {
     let mut page = converted::sheet_room();
     let end = converted::sheet_page(&bytes[..n], &mut page);
     output::print(b"to_sheet", &page[0..end]);
+    let mut words = refused::where_room();
+    let said = refused::image_where(&bytes[..n], &mut words);
+    output::say(&words[0..said]);
 }

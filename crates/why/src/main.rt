@@ -10,4 +10,7 @@ fn main() {
         output::complain(b"why", b"the batch has no programs");
     }
     output::print(b"why", &page[0..end]);
+    let mut words = refused::where_room();
+    let said = report::said(&bytes[..n], &mut words);
+    output::say(&words[0..said]);
 }

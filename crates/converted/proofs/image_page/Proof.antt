@@ -26,7 +26,7 @@ put-refused-requires : tie.Need-put-refused-requires
 put-refused-requires c κs =
     let r = c .before .before in
     let i = r .before .before .before .before in
-    refusal-room _ (start-of i .pre) (tells i _ (r .refusal .given .1))
+    refusal-room _ (start-of i .pre) _ (tells i _ (r .refusal .given .1))
 
 put-refused-at-requires : tie.Need-put-refused-at-requires
 put-refused-at-requires c κs =
@@ -39,7 +39,7 @@ returns c =
     let p = c .before .before in
     let r = p .before .before .before in
     let i = r .before .before .before .before in
-    refusal-says _ (start-of i .pre) (tells i _ (r .refusal .given .1)) (p .put-refused .ensures)
+    refusal-says _ (start-of i .pre) _ (tells i _ (r .refusal .given .1)) (p .put-refused .ensures)
 
 returns-2 : tie.Need-returns-2
 returns-2 c =
