@@ -5,7 +5,7 @@ use crate::scenarios::{GATHER, IMAGE_OF, NEXT_IMAGE, OPEN, ORDER, SETTLE, SHEET_
 use archive::{bytes, words, Archive, Measure};
 use plain::image::{LONGEST, PROGRAMS};
 use plain::refusal::DONE;
-use plain::sheet;
+use plain::{sheet, Refusal};
 
 /// Makes the calls, and notes the place in `CALLS` and the measure of each. Of the calls that are
 /// made once for each program, or for each carried one, only one in so many is measured.
@@ -19,7 +19,7 @@ pub fn run(
     let (image, table) = (&mut bytes(&scenario.image), &mut words(&scenario.table));
     let (fresh, out) = (&mut bytes(&scenario.fresh), &mut bytes(&[0; LONGEST]));
     let (area, list) = (&mut words(&scenario.first_area()), &mut words(&[0; PROGRAMS]));
-    let mut done = |call: usize, refusal: u32, measured: Option<u64>| {
+    let mut done = |call: usize, refusal: Refusal, measured: Option<u64>| {
         assert_eq!(refusal, DONE, "no call of a scenario is refused");
         if let Some(measured) = measured {
             note(call, measured);

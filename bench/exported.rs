@@ -2,20 +2,23 @@
 //! link it in the archive's place. The driver keeps the header's rules; it never lends a null pointer
 //! here.
 
-use plain::{Cause, Count, Step, Text};
+use plain::{Cause, Count, Refusal, Step, Text};
 use std::slice::{from_raw_parts, from_raw_parts_mut};
 
 #[repr(C)]
-pub struct CStep(u32, u32, u32);
+pub struct CRefusal(u32, u32, u32);
 
 #[repr(C)]
-pub struct CCause(u32, u32, u32, u32, u32, u32);
+pub struct CStep(CRefusal, u32, u32);
 
 #[repr(C)]
-pub struct CCount(u32, u32);
+pub struct CCause(CRefusal, u32, u32, u32, u32, u32);
 
 #[repr(C)]
-pub struct CText(u32, u32, u32);
+pub struct CCount(CRefusal, u32);
+
+#[repr(C)]
+pub struct CText(CRefusal, u32, u32);
 
 #[repr(C)]
 pub struct CPart(usize, usize);
@@ -32,8 +35,8 @@ pub unsafe extern "C" fn sheetbendle_program_refusal(
     image: *const u8,
     image_bytes: usize,
     number: usize,
-) -> u32 {
-    plain::program_refusal(from_raw_parts(image, image_bytes), number)
+) -> CRefusal {
+    refusal(plain::program_refusal(from_raw_parts(image, image_bytes), number))
 }
 
 #[no_mangle]
@@ -44,9 +47,9 @@ pub unsafe extern "C" fn sheetbendle_open(
     cells: usize,
     area: *mut u32,
     words: usize,
-) -> u32 {
+) -> CRefusal {
     let (image, table) = (from_raw_parts(image, image_bytes), from_raw_parts(table, cells));
-    plain::open(image, table, from_raw_parts_mut(area, words))
+    refusal(plain::open(image, table, from_raw_parts_mut(area, words)))
 }
 
 #[no_mangle]
@@ -144,18 +147,23 @@ pub unsafe extern "C" fn sheetbendle_sheet_of(
     text(plain::sheet_of(from_raw_parts(image, image_bytes), from_raw_parts_mut(out, out_bytes)))
 }
 
-fn step(Step { refusal, state, detail }: Step) -> CStep {
-    CStep(refusal, state, detail)
+fn refusal(Refusal { number, program, instruction }: Refusal) -> CRefusal {
+    CRefusal(number, program, instruction)
 }
 
-fn cause(Cause { refusal, reason, cell, program, war_cell, war_program }: Cause) -> CCause {
-    CCause(refusal, reason, cell, program, war_cell, war_program)
+fn step(step: Step) -> CStep {
+    CStep(refusal(step.refusal), step.state, step.detail)
 }
 
-fn text(Text { refusal, length, line }: Text) -> CText {
-    CText(refusal, length, line)
+fn cause(cause: Cause) -> CCause {
+    let Cause { reason, cell, program, war_cell, war_program, .. } = cause;
+    CCause(refusal(cause.refusal), reason, cell, program, war_cell, war_program)
 }
 
-fn count(Count { refusal, count }: Count) -> CCount {
-    CCount(refusal, count)
+fn text(text: Text) -> CText {
+    CText(refusal(text.refusal), text.length, text.line)
+}
+
+fn count(count: Count) -> CCount {
+    CCount(refusal(count.refusal), count.count)
 }

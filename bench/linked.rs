@@ -2,20 +2,27 @@
 //! each behind a safe function that takes slices.
 
 use crate::Calls;
-use plain::{Cause, Count, Step, Text};
+use plain::{Cause, Count, Refusal, Step, Text};
 
 pub struct Archive;
 
 #[repr(C)]
+struct CRefusal {
+    number: u32,
+    program: u32,
+    instruction: u32,
+}
+
+#[repr(C)]
 struct CStep {
-    refusal: u32,
+    refusal: CRefusal,
     state: u32,
     detail: u32,
 }
 
 #[repr(C)]
 struct CCause {
-    refusal: u32,
+    refusal: CRefusal,
     reason: u32,
     cell: u32,
     program: u32,
@@ -25,13 +32,13 @@ struct CCause {
 
 #[repr(C)]
 struct CCount {
-    refusal: u32,
+    refusal: CRefusal,
     count: u32,
 }
 
 #[repr(C)]
 struct CText {
-    refusal: u32,
+    refusal: CRefusal,
     length: u32,
     line: u32,
 }
@@ -44,7 +51,7 @@ extern "C" {
         cells: usize,
         area: *mut u32,
         words: usize,
-    ) -> u32;
+    ) -> CRefusal;
     fn sheetbendle_gather(
         image: *const u8,
         image_bytes: usize,
@@ -102,10 +109,10 @@ extern "C" {
 // that the header asks.
 impl Calls for Archive {
     #[inline]
-    fn open(&self, image: &[u8], table: &[u32], area: &mut [u32]) -> u32 {
+    fn open(&self, image: &[u8], table: &[u32], area: &mut [u32]) -> Refusal {
         let (image_bytes, cells, words) = (image.len(), table.len(), area.len());
         let (image, table, area) = (image.as_ptr(), table.as_ptr(), area.as_mut_ptr());
-        unsafe { sheetbendle_open(image, image_bytes, table, cells, area, words) }
+        refusal(unsafe { sheetbendle_open(image, image_bytes, table, cells, area, words) })
     }
 
     #[inline]
@@ -171,18 +178,23 @@ impl Calls for Archive {
     }
 }
 
-fn step(CStep { refusal, state, detail }: CStep) -> Step {
-    Step { refusal, state, detail }
+fn refusal(CRefusal { number, program, instruction }: CRefusal) -> Refusal {
+    Refusal { number, program, instruction }
 }
 
-fn cause(CCause { refusal, reason, cell, program, war_cell, war_program }: CCause) -> Cause {
-    Cause { refusal, reason, cell, program, war_cell, war_program }
+fn step(step: CStep) -> Step {
+    Step { refusal: refusal(step.refusal), state: step.state, detail: step.detail }
 }
 
-fn text(CText { refusal, length, line }: CText) -> Text {
-    Text { refusal, length, line }
+fn cause(cause: CCause) -> Cause {
+    let CCause { reason, cell, program, war_cell, war_program, .. } = cause;
+    Cause { refusal: refusal(cause.refusal), reason, cell, program, war_cell, war_program }
 }
 
-fn count(CCount { refusal, count }: CCount) -> Count {
-    Count { refusal, count }
+fn text(text: CText) -> Text {
+    Text { refusal: refusal(text.refusal), length: text.length, line: text.line }
+}
+
+fn count(count: CCount) -> Count {
+    Count { refusal: refusal(count.refusal), count: count.count }
 }

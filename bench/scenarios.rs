@@ -8,6 +8,7 @@ use plain::area::{words, CARRIED, CELLS, COMMITTED, GATHERED};
 use plain::area::{READS, READ_COUNT, SLOT_WORDS, STATE, STORES, STORE_COUNT};
 use plain::image::{INSTRUCTIONS, PROGRAMS};
 use plain::refusal::{DONE, LINE};
+use plain::Refusal;
 
 /// The calls that are measured.
 pub const CALLS: [&str; 8] =
@@ -52,7 +53,7 @@ pub struct Sheet {
     pub name: String,
     pub sheet: Vec<u8>,
     /// What reading the sheet is refused with.
-    pub refusal: u32,
+    pub refusal: Refusal,
     pub image: Option<Vec<u8>>,
 }
 

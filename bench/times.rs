@@ -9,7 +9,7 @@ use linked::Archive;
 use plain::image::{LONGEST, PROGRAMS};
 use plain::refusal::DONE;
 use plain::sheet;
-use plain::{Cause, Count, Step, Text};
+use plain::{Cause, Count, Refusal, Step, Text};
 use scenarios::{carried_programs, gathered_programs, Scenario, Sheet, Start};
 use scenarios::{CALLS, GATHER, IMAGE_OF, NEXT_IMAGE, OPEN, ORDER, SETTLE, SHEET_OF, WHY};
 use std::hint::black_box;
@@ -27,7 +27,7 @@ const HOSTILE: usize = 1 << 20;
 
 /// The calls of one side.
 trait Calls {
-    fn open(&self, image: &[u8], table: &[u32], area: &mut [u32]) -> u32;
+    fn open(&self, image: &[u8], table: &[u32], area: &mut [u32]) -> Refusal;
     fn gather(&self, image: &[u8], table: &[u32], area: &mut [u32], number: usize) -> Step;
     fn settle(&self, image: &[u8], table: &mut [u32], area: &mut [u32], number: usize) -> Step;
     fn why(&self, image: &[u8], table: &[u32], area: &[u32], number: usize) -> Cause;
@@ -40,7 +40,7 @@ trait Calls {
 struct Plain;
 
 impl Calls for Plain {
-    fn open(&self, image: &[u8], table: &[u32], area: &mut [u32]) -> u32 {
+    fn open(&self, image: &[u8], table: &[u32], area: &mut [u32]) -> Refusal {
         plain::open(image, table, area)
     }
     fn gather(&self, image: &[u8], table: &[u32], area: &mut [u32], number: usize) -> Step {
@@ -129,7 +129,7 @@ fn per_call(count: usize, mut call: impl FnMut(usize)) -> f64 {
     start.elapsed().as_nanos() as f64 / count as f64
 }
 
-fn done(refusal: u32) {
+fn done(refusal: Refusal) {
     assert_eq!(black_box(refusal), DONE, "no call of the benchmark is refused");
 }
 

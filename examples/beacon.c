@@ -100,12 +100,34 @@ static size_t make_image(uint8_t *out, const struct program *programs, size_t pr
     return offset;
 }
 
-/* Ends the example where a call was refused. */
-static void check(const char *call, uint32_t refusal) {
-    if (refusal != SHEETBENDLE_DONE) {
-        fprintf(stderr, "%s refused %u\n", call, (unsigned)refusal);
-        exit(EXIT_FAILURE);
+/* In what the bad instruction stands that a refusal names; nothing where it names none. */
+static const char *bad_program(uint32_t number) {
+    switch (number) {
+    case SHEETBENDLE_REFUSED_OPERATION:
+    case SHEETBENDLE_REFUSED_REGISTER:
+    case SHEETBENDLE_REFUSED_UNUSED:
+    case SHEETBENDLE_REFUSED_SKIP:
+        return "program";
+    case SHEETBENDLE_REFUSED_FRESH_OPERATION:
+    case SHEETBENDLE_REFUSED_FRESH_REGISTER:
+    case SHEETBENDLE_REFUSED_FRESH_UNUSED:
+    case SHEETBENDLE_REFUSED_FRESH_SKIP:
+        return "fresh program";
+    default:
+        return NULL;
     }
+}
+
+/* Ends the example where a call was refused. */
+static void check(const char *call, sheetbendle_refusal refusal) {
+    const char *bad = bad_program(refusal.number);
+    if (refusal.number == SHEETBENDLE_DONE)
+        return;
+    fprintf(stderr, "%s refused %u", call, (unsigned)refusal.number);
+    if (bad)
+        fprintf(stderr, ": %s %u, instruction %u", bad, (unsigned)refusal.program, (unsigned)refusal.instruction);
+    fprintf(stderr, "\n");
+    exit(EXIT_FAILURE);
 }
 
 /* Opens, gathers and settles a batch, and prints what came of it. */

@@ -155,8 +155,8 @@ static void make_fresh(size_t programs) {
 /* What a board does. */
 
 /* Ends the example where a right step was refused. */
-static void done(const struct board *board, const char *what, uint32_t refusal) {
-    if (refusal != SHEETBENDLE_DONE)
+static void done(const struct board *board, const char *what, sheetbendle_refusal refusal) {
+    if (refusal.number != SHEETBENDLE_DONE)
         fail(board, what);
 }
 
@@ -170,18 +170,18 @@ static void shuffle(struct board *board, size_t *numbers, size_t count) {
     }
 }
 
-/* A wrong step while some program waits and so many are gathered; returns its refusal, and what that must be. */
+/* A wrong step while some program waits and so many are gathered; returns its refusal's number, and what that must be. */
 static uint32_t wrong_while_gathering(struct board *board, size_t gathered, uint32_t *expected) {
     size_t kind = below(&board->random, gathered > 0 ? 3 : 2), number = below(&board->random, board->programs);
     *expected = SHEETBENDLE_REFUSED_STATE;
     switch (kind) {
     case 0: /* too early */
-        return sheetbendle_settle(LENT(board), number).refusal;
+        return sheetbendle_settle(LENT(board), number).refusal.number;
     case 1: /* out of range */
         *expected = SHEETBENDLE_REFUSED_NUMBER;
-        return sheetbendle_gather(LENT(board), board->programs + number).refusal;
+        return sheetbendle_gather(LENT(board), board->programs + number).refusal.number;
     default: /* a second time */
-        return sheetbendle_gather(LENT(board), board->gathers[number % gathered]).refusal;
+        return sheetbendle_gather(LENT(board), board->gathers[number % gathered]).refusal.number;
     }
 }
 
@@ -191,14 +191,14 @@ static uint32_t wrong_while_settling(struct board *board, size_t settled, uint32
     *expected = SHEETBENDLE_REFUSED_STATE;
     switch (kind) {
     case 0: /* too early */
-        return sheetbendle_order(LENT(board), board->order, SHEETBENDLE_PROGRAMS).refusal;
+        return sheetbendle_order(LENT(board), board->order, SHEETBENDLE_PROGRAMS).refusal.number;
     case 1: /* out of range */
         *expected = SHEETBENDLE_REFUSED_NUMBER;
-        return sheetbendle_settle(LENT(board), board->programs + number).refusal;
+        return sheetbendle_settle(LENT(board), board->programs + number).refusal.number;
     case 2: /* too late */
-        return sheetbendle_gather(LENT(board), number).refusal;
+        return sheetbendle_gather(LENT(board), number).refusal.number;
     default: /* a second time */
-        return sheetbendle_settle(LENT(board), board->settles[number % settled]).refusal;
+        return sheetbendle_settle(LENT(board), board->settles[number % settled]).refusal.number;
     }
 }
 

@@ -45,12 +45,22 @@ static uint32_t area[WORDS];
 /* What every call is lent. */
 #define LENT image, sizeof image, table, CELLS, area, WORDS
 
-/* Ends the example where a call was refused. */
-static void check(const char *call, uint32_t refusal) {
-    if (refusal != SHEETBENDLE_DONE) {
-        fprintf(stderr, "%s refused %u\n", call, (unsigned)refusal);
-        exit(EXIT_FAILURE);
+/* Ends the example where a call was refused, and says so: where an instruction is bad, with its place. */
+static void check(const char *call, sheetbendle_refusal refusal) {
+    switch (refusal.number) {
+    case SHEETBENDLE_DONE:
+        return;
+    case SHEETBENDLE_REFUSED_OPERATION:
+    case SHEETBENDLE_REFUSED_REGISTER:
+    case SHEETBENDLE_REFUSED_UNUSED:
+    case SHEETBENDLE_REFUSED_SKIP:
+        fprintf(stderr, "%s refused %u: program %u, instruction %u\n", call, (unsigned)refusal.number,
+                (unsigned)refusal.program, (unsigned)refusal.instruction);
+        break;
+    default:
+        fprintf(stderr, "%s refused %u\n", call, (unsigned)refusal.number);
     }
+    exit(EXIT_FAILURE);
 }
 
 /* Opens, gathers and settles the batch under a rule. */

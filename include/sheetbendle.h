@@ -38,12 +38,19 @@
  * the caller's frame down, as bench/run measures it on x86-64:
  *
  *     program   program_refusal   open   gather   settle   why   order   next_image   image_of   sheet_of
- *         120               120    136      760      200   200     968          216        336        256
+ *         136               120    152      760      232   232     984          248        380        272
  *
- * Refusals. Every call may be lent anything: it checks first, in the order of the numbers below
- * (the next image: 1 to 7, 9, 21 to 24, 11, 10; the image of a sheet: 51, 2, 3, 4, 10), and the
- * first that holds is returned. A refused call changes no lent memory, and every other number it
- * returns is 0, but for the line of 51.
+ * Refusals. Every call may be lent anything: it checks first, in the order of the rows below (the
+ * next image: 1 to 3, 41 to 44, 5 to 7, 9, 21 to 23, 61 to 64, 11, 10; the image of a sheet: 51, 2,
+ * 3, 42 to 44, 10), and the first that holds is returned. 41 to 44 are one check, and so are 61 to
+ * 64: it goes through the programs in their order, each from its first instruction on, and stops at
+ * the first instruction that is bad. Where that one is bad in several ways, the first of the four is
+ * returned. A refused call changes no lent memory, and every other number it returns is 0, but for
+ * the place of 41 to 44 and 61 to 64 and the line of 51.
+ *
+ * The place is that of the bad instruction: the number of its program, in the image, the fresh image
+ * or the sheet, and its own number in that program, both from 0. For every other refusal, and for 0,
+ * program and instruction are 0 and mean nothing.
  *
  *     no.   when exactly                                                              from
  *      0    done                                                                      all
@@ -52,7 +59,10 @@
  *           programs
  *      3    image under 2n+6 bytes, or an offset rule broken; a sheet: some program   all
  *           has over 32 instructions
- *      4    some instruction is bad                                                   all
+ *     41    the first bad instruction has an unknown operation, which is one over 8   all but image_of
+ *     42    the first bad instruction names a register over 7                         all
+ *     43    the first bad instruction has an unused byte that is not 0                all
+ *     44    the first bad instruction is a skip past the end of its program           all
  *      5    table of 0 or over 256 cells                                              those of a batch
  *      6    area is not 2T + 100n words                                               those of a batch
  *      7    a mark over n, a state over 5, a count over 32, or a cell of T or more    those of a batch but open
@@ -67,7 +77,8 @@
  *     13    this program is not carried                                               why
  *     15    its detail is not the reason that its slot, the marks and the rule give   why
  *           (never for an area that these calls made on this image)
- *     21-24 as 1 to 4, for the fresh image                                            next_image
+ *     21-23 as 1 to 3, for the fresh image                                            next_image
+ *     61-64 as 41 to 44, for the fresh image                                          next_image
  *     51    some line of the sheet is one that its place does not allow; the number   image_of
  *           of the first such line is returned too
  *
@@ -89,8 +100,10 @@
  *     7 skipequal  the same if r[a] = r[b]
  *     8 reject     stops, code a; b and c are 0
  *
- * Any other operation is bad, and so is a register over 7, a byte that is not 0 where the list says
- * 0, and a skip past the program's end.
+ * Any other operation is unknown, and what its a, b, c are is not asked. r[a], r[b] and r[c] name
+ * registers, which are r[0] to r[7]. An unused byte is one that the list says is 0. A skip at
+ * instruction i of m, from 0, goes past the end where i+1+c is over m, taken or not; where it is m,
+ * the program ends there.
  *
  * The sheet. An image as text that can be typed: a line "rule R" with the rule byte R, which is 0,
  * 1 or 2, then for each program a line "program" and a line for each of its instructions: its name
@@ -121,9 +134,9 @@ extern "C" {
 /*
  * The number of what this header declares: raised by every change of a signature, a state, a
  * refusal, a size or a place in memory. A program that was written for this one can ask for it:
- * #if SHEETBENDLE_VERSION != 3
+ * #if SHEETBENDLE_VERSION != 4
  */
-#define SHEETBENDLE_VERSION 3
+#define SHEETBENDLE_VERSION 4
 
 /* Limits. */
 #define SHEETBENDLE_PROGRAMS 64     /* the most programs of an image */
@@ -197,7 +210,10 @@ extern "C" {
 #define SHEETBENDLE_REFUSED_IMAGE_SIZE 1u
 #define SHEETBENDLE_REFUSED_HEADER 2u
 #define SHEETBENDLE_REFUSED_OFFSETS 3u
-#define SHEETBENDLE_REFUSED_INSTRUCTION 4u
+#define SHEETBENDLE_REFUSED_OPERATION 41u
+#define SHEETBENDLE_REFUSED_REGISTER 42u
+#define SHEETBENDLE_REFUSED_UNUSED 43u
+#define SHEETBENDLE_REFUSED_SKIP 44u
 #define SHEETBENDLE_REFUSED_TABLE_SIZE 5u
 #define SHEETBENDLE_REFUSED_AREA_SIZE 6u
 #define SHEETBENDLE_REFUSED_AREA 7u
@@ -211,7 +227,10 @@ extern "C" {
 #define SHEETBENDLE_REFUSED_FRESH_IMAGE_SIZE 21u
 #define SHEETBENDLE_REFUSED_FRESH_HEADER 22u
 #define SHEETBENDLE_REFUSED_FRESH_OFFSETS 23u
-#define SHEETBENDLE_REFUSED_FRESH_INSTRUCTION 24u
+#define SHEETBENDLE_REFUSED_FRESH_OPERATION 61u
+#define SHEETBENDLE_REFUSED_FRESH_REGISTER 62u
+#define SHEETBENDLE_REFUSED_FRESH_UNUSED 63u
+#define SHEETBENDLE_REFUSED_FRESH_SKIP 64u
 #define SHEETBENDLE_REFUSED_LINE 51u
 
 /* States of a program, with what its detail then says. */
@@ -231,9 +250,15 @@ extern "C" {
 #define SHEETBENDLE_RAW 2u          /* Rule 1: an earlier program stores a cell that it reads */
 #define SHEETBENDLE_RAW_WITH_WAR 3u /* Rule 2: that, and an earlier program reads a cell that it stores */
 
+/* A refusal: its number, and the place of the bad instruction for the numbers that have one. */
+typedef struct {
+    uint32_t number, program, instruction;
+} sheetbendle_refusal;
+
 /* What gathering and settling return. */
 typedef struct {
-    uint32_t refusal, state, detail;
+    sheetbendle_refusal refusal;
+    uint32_t state, detail;
 } sheetbendle_step;
 
 /*
@@ -242,12 +267,14 @@ typedef struct {
  * members, which are 0 for the others.
  */
 typedef struct {
-    uint32_t refusal, reason, cell, program, war_cell, war_program;
+    sheetbendle_refusal refusal;
+    uint32_t reason, cell, program, war_cell, war_program;
 } sheetbendle_cause;
 
 /* What the order and the next image return: a count of entries, a length in bytes. */
 typedef struct {
-    uint32_t refusal, count;
+    sheetbendle_refusal refusal;
+    uint32_t count;
 } sheetbendle_count;
 
 /*
@@ -256,7 +283,8 @@ typedef struct {
  * is 0 for everything else.
  */
 typedef struct {
-    uint32_t refusal, length, line;
+    sheetbendle_refusal refusal;
+    uint32_t length, line;
 } sheetbendle_text;
 
 /* A part of the image: where it starts and how many bytes it has; 0, 0 on a refusal. */
@@ -270,21 +298,21 @@ typedef struct {
  */
 sheetbendle_part sheetbendle_program(const uint8_t *image, size_t image_bytes, size_t number);
 
-/* The refusal of the same question: 1 to 4 or 8; or 0. */
-uint32_t sheetbendle_program_refusal(const uint8_t *image, size_t image_bytes, size_t number);
+/* The refusal of the same question: 1 to 3, 41 to 44, 8; or 0. */
+sheetbendle_refusal sheetbendle_program_refusal(const uint8_t *image, size_t image_bytes, size_t number);
 
 /*
  * Opens a batch: sets the whole area to 0. What stood in the area before does not matter. Returns
- * the refusal: 1 to 6; or 0.
+ * the refusal: 1 to 3, 41 to 44, 5, 6; or 0.
  */
-uint32_t sheetbendle_open(const uint8_t *image, size_t image_bytes,
-                          const uint32_t *table, size_t cells,
-                          uint32_t *area, size_t words);
+sheetbendle_refusal sheetbendle_open(const uint8_t *image, size_t image_bytes,
+                                     const uint32_t *table, size_t cells,
+                                     uint32_t *area, size_t words);
 
 /*
  * Gathers one waiting program: runs it on the table, rewrites its slot in the area and makes its
  * reservations there. The table does not change. Returns the state, which is gathered, rejected
- * or faulted, and the detail; or a refusal: 1 to 9.
+ * or faulted, and the detail; or a refusal: 1 to 3, 41 to 44, 5 to 9.
  */
 sheetbendle_step sheetbendle_gather(const uint8_t *image, size_t image_bytes,
                                     const uint32_t *table, size_t cells,
@@ -294,7 +322,7 @@ sheetbendle_step sheetbendle_gather(const uint8_t *image, size_t image_bytes,
 /*
  * Settles one gathered program, once no program is waiting: commits it, and its stores go into the
  * table, or carries it. Of the area only this program's state and detail change. Returns both; or
- * a refusal: 1 to 9.
+ * a refusal: 1 to 3, 41 to 44, 5 to 9.
  */
 sheetbendle_step sheetbendle_settle(const uint8_t *image, size_t image_bytes,
                                     uint32_t *table, size_t cells,
@@ -305,7 +333,7 @@ sheetbendle_step sheetbendle_settle(const uint8_t *image, size_t image_bytes,
  * Says why a program was carried, once all are settled: for each dependency of the reason the lowest
  * cell, by its number, that shows it, and the earlier program that this cell's mark names, which is
  * the smallest that stores the cell (WAW, RAW) or reads it (WAR). Nothing that is lent changes.
- * Returns the reason and its cause; or a refusal: 1 to 9, 13, 15.
+ * Returns the reason and its cause; or a refusal: 1 to 3, 41 to 44, 5 to 9, 13, 15.
  */
 sheetbendle_cause sheetbendle_why(const uint8_t *image, size_t image_bytes,
                                   const uint32_t *table, size_t cells,
@@ -316,7 +344,7 @@ sheetbendle_cause sheetbendle_why(const uint8_t *image, size_t image_bytes,
  * Lists the committed programs' numbers in an order in which they could have run one after the
  * other, each on the table that the one before it left, with the same loads, stores and end table.
  * The list has at least n entries; those beyond the returned count stay as they are. Returns the
- * count; or a refusal: 1 to 7, 9, 10, 12.
+ * count; or a refusal: 1 to 3, 41 to 44, 5 to 7, 9, 10, 12.
  */
 sheetbendle_count sheetbendle_order(const uint8_t *image, size_t image_bytes,
                                     const uint32_t *table, size_t cells,
@@ -327,7 +355,7 @@ sheetbendle_count sheetbendle_order(const uint8_t *image, size_t image_bytes,
  * Writes the next batch's image: the carried programs in number order, then the fresh image's
  * programs, under the fresh image's rule byte. An output of SHEETBENDLE_LONGEST_IMAGE bytes is
  * always long enough; its bytes beyond the returned length stay as they are. Returns the length;
- * or a refusal: 1 to 7, 9, 21 to 24, 11, 10.
+ * or a refusal: 1 to 3, 41 to 44, 5 to 7, 9, 21 to 23, 61 to 64, 11, 10.
  */
 sheetbendle_count sheetbendle_next_image(const uint8_t *image, size_t image_bytes,
                                          const uint32_t *table, size_t cells,
@@ -338,7 +366,7 @@ sheetbendle_count sheetbendle_next_image(const uint8_t *image, size_t image_byte
 /*
  * Reads a sheet and writes its image. The sheet is bytes with a length: no zero ends it. An output
  * of SHEETBENDLE_LONGEST_IMAGE bytes is always long enough; its bytes beyond the returned length
- * stay as they are. Returns the length; or a refusal: 51 with the line, 2, 3, 4, 10.
+ * stay as they are. Returns the length; or a refusal: 51 with the line, 2, 3, 42 to 44, 10.
  */
 sheetbendle_text sheetbendle_image_of(const uint8_t *sheet, size_t sheet_bytes,
                                       uint8_t *out, size_t out_bytes);
@@ -346,7 +374,7 @@ sheetbendle_text sheetbendle_image_of(const uint8_t *sheet, size_t sheet_bytes,
 /*
  * Reads an image and writes its sheet. No zero is put behind it. An output of
  * SHEETBENDLE_LONGEST_SHEET bytes is always long enough; its bytes beyond the returned length stay
- * as they are. Returns the length; or a refusal: 1 to 4, 10.
+ * as they are. Returns the length; or a refusal: 1 to 3, 41 to 44, 10.
  */
 sheetbendle_text sheetbendle_sheet_of(const uint8_t *image, size_t image_bytes,
                                       uint8_t *out, size_t out_bytes);

@@ -54,7 +54,6 @@ IS(SHEETBENDLE_DONE, 0);
 IS(SHEETBENDLE_REFUSED_IMAGE_SIZE, 1);
 IS(SHEETBENDLE_REFUSED_HEADER, 2);
 IS(SHEETBENDLE_REFUSED_OFFSETS, 3);
-IS(SHEETBENDLE_REFUSED_INSTRUCTION, 4);
 IS(SHEETBENDLE_REFUSED_TABLE_SIZE, 5);
 IS(SHEETBENDLE_REFUSED_AREA_SIZE, 6);
 IS(SHEETBENDLE_REFUSED_AREA, 7);
@@ -66,12 +65,21 @@ IS(SHEETBENDLE_REFUSED_NO_ORDER, 12);
 IS(SHEETBENDLE_REFUSED_FRESH_IMAGE_SIZE, 21);
 IS(SHEETBENDLE_REFUSED_FRESH_HEADER, 22);
 IS(SHEETBENDLE_REFUSED_FRESH_OFFSETS, 23);
-IS(SHEETBENDLE_REFUSED_FRESH_INSTRUCTION, 24);
 
 /* Document 02, request 1. */
 IS(SHEETBENDLE_REFUSED_LINE, 51);
 IS(SHEETBENDLE_LONGEST_SHEET, 7 + 64 * (8 + 22 * 17 + 10 * 16));
 IS(SHEETBENDLE_LONGEST_SHEET, 34695);
+
+/* Document 02, request 2: they replace 4 and 24. */
+IS(SHEETBENDLE_REFUSED_OPERATION, 41);
+IS(SHEETBENDLE_REFUSED_REGISTER, 42);
+IS(SHEETBENDLE_REFUSED_UNUSED, 43);
+IS(SHEETBENDLE_REFUSED_SKIP, 44);
+IS(SHEETBENDLE_REFUSED_FRESH_OPERATION, 61);
+IS(SHEETBENDLE_REFUSED_FRESH_REGISTER, 62);
+IS(SHEETBENDLE_REFUSED_FRESH_UNUSED, 63);
+IS(SHEETBENDLE_REFUSED_FRESH_SKIP, 64);
 
 /* Document 02, request 3. */
 IS(SHEETBENDLE_REFUSED_NOT_CARRIED, 13);
@@ -96,27 +104,32 @@ IS(SHEETBENDLE_RAW_WITH_WAR, 3);
     _Static_assert(sizeof(((type *)0)->member) == (size), #type "." #member " has another size than in the archive")
 #define SIZE(type, size) _Static_assert(sizeof(type) == (size), #type " has another size than in the archive")
 
-MEMBER(sheetbendle_step, refusal, 0, 4);
-MEMBER(sheetbendle_step, state, 4, 4);
-MEMBER(sheetbendle_step, detail, 8, 4);
-SIZE(sheetbendle_step, 12);
+MEMBER(sheetbendle_refusal, number, 0, 4);
+MEMBER(sheetbendle_refusal, program, 4, 4);
+MEMBER(sheetbendle_refusal, instruction, 8, 4);
+SIZE(sheetbendle_refusal, 12);
 
-MEMBER(sheetbendle_cause, refusal, 0, 4);
-MEMBER(sheetbendle_cause, reason, 4, 4);
-MEMBER(sheetbendle_cause, cell, 8, 4);
-MEMBER(sheetbendle_cause, program, 12, 4);
-MEMBER(sheetbendle_cause, war_cell, 16, 4);
-MEMBER(sheetbendle_cause, war_program, 20, 4);
-SIZE(sheetbendle_cause, 24);
+MEMBER(sheetbendle_step, refusal, 0, 12);
+MEMBER(sheetbendle_step, state, 12, 4);
+MEMBER(sheetbendle_step, detail, 16, 4);
+SIZE(sheetbendle_step, 20);
 
-MEMBER(sheetbendle_count, refusal, 0, 4);
-MEMBER(sheetbendle_count, count, 4, 4);
-SIZE(sheetbendle_count, 8);
+MEMBER(sheetbendle_cause, refusal, 0, 12);
+MEMBER(sheetbendle_cause, reason, 12, 4);
+MEMBER(sheetbendle_cause, cell, 16, 4);
+MEMBER(sheetbendle_cause, program, 20, 4);
+MEMBER(sheetbendle_cause, war_cell, 24, 4);
+MEMBER(sheetbendle_cause, war_program, 28, 4);
+SIZE(sheetbendle_cause, 32);
 
-MEMBER(sheetbendle_text, refusal, 0, 4);
-MEMBER(sheetbendle_text, length, 4, 4);
-MEMBER(sheetbendle_text, line, 8, 4);
-SIZE(sheetbendle_text, 12);
+MEMBER(sheetbendle_count, refusal, 0, 12);
+MEMBER(sheetbendle_count, count, 12, 4);
+SIZE(sheetbendle_count, 16);
+
+MEMBER(sheetbendle_text, refusal, 0, 12);
+MEMBER(sheetbendle_text, length, 12, 4);
+MEMBER(sheetbendle_text, line, 16, 4);
+SIZE(sheetbendle_text, 20);
 
 MEMBER(sheetbendle_part, start, 0, sizeof(size_t));
 MEMBER(sheetbendle_part, length, sizeof(size_t), sizeof(size_t));

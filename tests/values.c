@@ -56,10 +56,21 @@ static void is(const char *what, unsigned line, unsigned long got, unsigned long
 /* Everything lent to most calls. */
 #define LENT image, sizeof image, table, CELLS, area, WORDS
 
+/* A refusal that names a bad instruction; and one that does not, or 0. */
+#define REFUSAL_AT(refusal_, number_, program_, instruction_) \
+    do {                                                      \
+        sheetbendle_refusal refused = refusal_;               \
+        IS(refused.number, number_);                          \
+        IS(refused.program, program_);                        \
+        IS(refused.instruction, instruction_);                \
+    } while (0)
+
+#define REFUSAL_IS(refusal_, number_) REFUSAL_AT(refusal_, number_, 0, 0)
+
 #define STEP_IS(call, refusal_, state_, detail_) \
     do {                                         \
         sheetbendle_step step = call;            \
-        IS(step.refusal, refusal_);              \
+        REFUSAL_IS(step.refusal, refusal_);      \
         IS(step.state, state_);                  \
         IS(step.detail, detail_);                \
     } while (0)
@@ -67,7 +78,7 @@ static void is(const char *what, unsigned line, unsigned long got, unsigned long
 #define CAUSE_IS(call, refusal_, reason_, cell_, program_, war_cell_, war_program_) \
     do {                                                                            \
         sheetbendle_cause cause = call;                                             \
-        IS(cause.refusal, refusal_);                                                \
+        REFUSAL_IS(cause.refusal, refusal_);                                        \
         IS(cause.reason, reason_);                                                  \
         IS(cause.cell, cell_);                                                      \
         IS(cause.program, program_);                                                \
@@ -77,17 +88,17 @@ static void is(const char *what, unsigned line, unsigned long got, unsigned long
 
 #define WHY_REFUSED(call, refusal_) CAUSE_IS(call, refusal_, 0, 0, 0, 0, 0)
 
-#define COUNT_IS(call, refusal_, count_)  \
-    do {                                  \
-        sheetbendle_count answer = call;  \
-        IS(answer.refusal, refusal_);     \
-        IS(answer.count, count_);         \
+#define COUNT_IS(call, refusal_, count_)      \
+    do {                                      \
+        sheetbendle_count answer = call;      \
+        REFUSAL_IS(answer.refusal, refusal_); \
+        IS(answer.count, count_);             \
     } while (0)
 
 #define TEXT_IS(call, refusal_, length_, line_) \
     do {                                        \
         sheetbendle_text text = call;           \
-        IS(text.refusal, refusal_);             \
+        REFUSAL_IS(text.refusal, refusal_);     \
         IS(text.length, length_);               \
         IS(text.line, line_);                   \
     } while (0)
@@ -142,11 +153,11 @@ static uint32_t cause_area[CAUSE_WORDS];
 static void run_cause_batch(uint8_t rule) {
     size_t i;
     cause_image[2] = rule;
-    IS(sheetbendle_open(CAUSE_LENT), SHEETBENDLE_DONE);
+    REFUSAL_IS(sheetbendle_open(CAUSE_LENT), SHEETBENDLE_DONE);
     for (i = 0; i < CAUSE_PROGRAMS; i++)
         STEP_IS(sheetbendle_gather(CAUSE_LENT, i), SHEETBENDLE_DONE, SHEETBENDLE_GATHERED, 0);
     for (i = 0; i < CAUSE_PROGRAMS; i++)
-        IS(sheetbendle_settle(CAUSE_LENT, i).refusal, SHEETBENDLE_DONE);
+        REFUSAL_IS(sheetbendle_settle(CAUSE_LENT, i).refusal, SHEETBENDLE_DONE);
 }
 
 /* Each reason and each of why's own refusals. */
@@ -165,11 +176,46 @@ static void causes(void) {
     CAUSE_IS(sheetbendle_why(CAUSE_LENT, 3), SHEETBENDLE_DONE, SHEETBENDLE_RAW, 5, 1, 0, 0);
 }
 
-/* Sheets: that of the fresh image; one of 28 bytes with an instruction whose bytes are told apart; the same with a bad register, and with a byte over 255. */
+/* The image with one byte changed, so that an instruction is bad. */
+static uint8_t bad[sizeof image];
+
+#define BAD bad, sizeof bad, table, CELLS, area, WORDS
+
+/* Changes a byte: every call that is lent the image then names this place, and the next image that is lent it as the fresh one does so by 20 more. */
+static void bad_instruction(size_t place, uint8_t byte, uint32_t number, uint32_t program, uint32_t instruction) {
+    size_t i;
+    for (i = 0; i < sizeof image; i++)
+        bad[i] = image[i];
+    bad[place] = byte;
+    PART_IS(sheetbendle_program(bad, sizeof bad, 0), 0, 0);
+    REFUSAL_AT(sheetbendle_program_refusal(bad, sizeof bad, 0), number, program, instruction);
+    REFUSAL_AT(sheetbendle_open(BAD), number, program, instruction);
+    REFUSAL_AT(sheetbendle_gather(BAD, 0).refusal, number, program, instruction);
+    REFUSAL_AT(sheetbendle_settle(BAD, 0).refusal, number, program, instruction);
+    REFUSAL_AT(sheetbendle_why(BAD, 0).refusal, number, program, instruction);
+    REFUSAL_AT(sheetbendle_order(BAD, list, PROGRAMS).refusal, number, program, instruction);
+    REFUSAL_AT(sheetbendle_next_image(BAD, fresh, sizeof fresh, out, sizeof out).refusal, number, program, instruction);
+    REFUSAL_AT(sheetbendle_sheet_of(bad, sizeof bad, out, sizeof out).refusal, number, program, instruction);
+    REFUSAL_AT(sheetbendle_next_image(LENT, bad, sizeof bad, out, sizeof out).refusal, number + 20, program, instruction);
+}
+
+/* Each way to be bad, once the batch is settled. Number, program and instruction are told apart, and none of them is 0. */
+static void bad_instructions(void) {
+    bad_instruction(44, 9, SHEETBENDLE_REFUSED_OPERATION, 2, 1);
+    bad_instruction(53, 8, SHEETBENDLE_REFUSED_REGISTER, 2, 3);
+    bad_instruction(67, 1, SHEETBENDLE_REFUSED_UNUSED, 3, 2);
+    bad_instruction(60, SHEETBENDLE_OP_SKIPLESS, SHEETBENDLE_REFUSED_SKIP, 3, 1);
+}
+
+/* Sheets: that of the fresh image; one of 28 bytes with an instruction whose bytes are told apart; the same with a byte over 255. */
 static const char empty_program[] = "rule 1\nprogram\n";
 static const char one_instruction[] = "rule 2\nprogram\nset 3 44 255\n";
-static const char bad_instruction[] = "rule 2\nprogram\nset 8 44 255\n";
 static const char bad_line[] = "rule 2\nprogram\nset 3 44 256\n";
+
+/* Sheets whose lines are all allowed, with a bad instruction. */
+static const char bad_register[] = "rule 2\nprogram\nprogram\nend 0 0 0\nend 0 0 0\nset 8 44 255\n";
+static const char bad_unused[] = "rule 2\nprogram\nprogram\nprogram\nend 0 0 0\nload 7 7 1\n";
+static const char bad_skip[] = "rule 2\nprogram\nprogram\nend 0 0 0\nskipless 0 0 2\nend 0 0 0\n";
 static uint8_t sheet[SHEETBENDLE_LONGEST_SHEET];
 
 /* A sheet as the calls take it: without the zero at its end. */
@@ -193,7 +239,10 @@ static void sheets(void) {
     TEXT_IS(sheetbendle_image_of(TYPED(bad_line), out, sizeof out), SHEETBENDLE_REFUSED_LINE, 0, 3);
     TEXT_IS(sheetbendle_image_of((const uint8_t *)bad_line, 14, out, sizeof out), SHEETBENDLE_REFUSED_LINE, 0, 2);
     TEXT_IS(sheetbendle_image_of(NULL, 0, out, sizeof out), SHEETBENDLE_REFUSED_LINE, 0, 1);
-    TEXT_IS(sheetbendle_image_of(TYPED(bad_instruction), out, sizeof out), SHEETBENDLE_REFUSED_INSTRUCTION, 0, 0);
+    REFUSAL_AT(sheetbendle_image_of(TYPED(bad_register), out, sizeof out).refusal, SHEETBENDLE_REFUSED_REGISTER, 1, 2);
+    REFUSAL_AT(sheetbendle_image_of(TYPED(bad_unused), out, sizeof out).refusal, SHEETBENDLE_REFUSED_UNUSED, 2, 1);
+    REFUSAL_AT(sheetbendle_image_of(TYPED(bad_skip), out, sizeof out).refusal, SHEETBENDLE_REFUSED_SKIP, 1, 1);
+    IS(sheetbendle_image_of(TYPED(bad_skip), out, sizeof out).line, 0);
     TEXT_IS(sheetbendle_image_of(TYPED(one_instruction), out, 11), SHEETBENDLE_REFUSED_TOO_SHORT, 0, 0);
     IS(out[0], 90);
     TEXT_IS(sheetbendle_image_of(TYPED(one_instruction), out, sizeof out), SHEETBENDLE_DONE, 12, 0);
@@ -216,12 +265,12 @@ int main(void) {
 
     PART_IS(sheetbendle_program(image, sizeof image, 2), 40, 16);
     PART_IS(sheetbendle_program(image, sizeof image, PROGRAMS), 0, 0);
-    IS(sheetbendle_program_refusal(image, sizeof image, 2), SHEETBENDLE_DONE);
-    IS(sheetbendle_program_refusal(image, sizeof image, PROGRAMS), SHEETBENDLE_REFUSED_NUMBER);
+    REFUSAL_IS(sheetbendle_program_refusal(image, sizeof image, 2), SHEETBENDLE_DONE);
+    REFUSAL_IS(sheetbendle_program_refusal(image, sizeof image, PROGRAMS), SHEETBENDLE_REFUSED_NUMBER);
     IS(SHEETBENDLE_PROGRAM_COUNT(image), 5);
 
-    IS(sheetbendle_open(image, sizeof image, table, CELLS, area, WORDS - 1), SHEETBENDLE_REFUSED_AREA_SIZE);
-    IS(sheetbendle_open(LENT), SHEETBENDLE_DONE);
+    REFUSAL_IS(sheetbendle_open(image, sizeof image, table, CELLS, area, WORDS - 1), SHEETBENDLE_REFUSED_AREA_SIZE);
+    REFUSAL_IS(sheetbendle_open(LENT), SHEETBENDLE_DONE);
 
     STEP_IS(sheetbendle_gather(LENT, 4), SHEETBENDLE_DONE, SHEETBENDLE_REJECTED, 77);
     STEP_IS(sheetbendle_gather(LENT, 1), SHEETBENDLE_DONE, SHEETBENDLE_FAULTED, 513);
@@ -272,6 +321,7 @@ int main(void) {
     IS(out[10 + 3], 2);
     IS(out[2], SHEETBENDLE_RULE_1);
 
+    bad_instructions();
     sheets();
 
     printf("values in C: %u passed, %u failed\n", passed, failed);

@@ -18,8 +18,8 @@ enum { NOTHING, STACK, INSTRUCTIONS };
 #define LIMIT 60
 #define NO_LIMIT 0
 
-/* The most numbers that a call returns. */
-#define RESULTS 6
+/* The most numbers that a call returns: three of a refusal, and five behind them. */
+#define RESULTS 8
 
 /* Room for the largest buffers that are lent, with their guards: a sheet of more than a megabyte is the largest. */
 #define ROOM (2 * 1024 * 1024)
@@ -44,41 +44,49 @@ static void *place(int buffer) {
 /* A buffer as the calls take it: pointer and length. */
 #define LENT(buffer) place(buffer), frame.lent[buffer].length
 
-static void results(uint64_t first, uint64_t second, uint64_t third) {
-    frame.results[0] = first;
-    frame.results[1] = second;
-    frame.results[2] = third;
+static void refusal_results(sheetbendle_refusal refusal) {
+    frame.results[0] = refusal.number;
+    frame.results[1] = refusal.program;
+    frame.results[2] = refusal.instruction;
 }
 
 static void step_results(sheetbendle_step step) {
-    results(step.refusal, step.state, step.detail);
+    refusal_results(step.refusal);
+    frame.results[3] = step.state;
+    frame.results[4] = step.detail;
 }
 
 static void cause_results(sheetbendle_cause cause) {
-    results(cause.refusal, cause.reason, cause.cell);
-    frame.results[3] = cause.program;
-    frame.results[4] = cause.war_cell;
-    frame.results[5] = cause.war_program;
+    refusal_results(cause.refusal);
+    frame.results[3] = cause.reason;
+    frame.results[4] = cause.cell;
+    frame.results[5] = cause.program;
+    frame.results[6] = cause.war_cell;
+    frame.results[7] = cause.war_program;
 }
 
 static void count_results(sheetbendle_count count) {
-    results(count.refusal, count.count, 0);
+    refusal_results(count.refusal);
+    frame.results[3] = count.count;
 }
 
 static void text_results(sheetbendle_text text) {
-    results(text.refusal, text.length, text.line);
+    refusal_results(text.refusal);
+    frame.results[3] = text.length;
+    frame.results[4] = text.line;
 }
 
 static void part_results(sheetbendle_part part) {
-    results(part.start, part.length, 0);
+    frame.results[0] = part.start;
+    frame.results[1] = part.length;
 }
 
 /* Inlined where it is used, so that the stack is measured from that very frame. */
 static inline __attribute__((always_inline)) void make_call(void) {
     switch (frame.call) {
     case PROGRAM: part_results(sheetbendle_program(LENT(IMAGE), frame.number)); break;
-    case PROGRAM_REFUSAL: results(sheetbendle_program_refusal(LENT(IMAGE), frame.number), 0, 0); break;
-    case OPEN: results(sheetbendle_open(LENT(IMAGE), LENT(TABLE), LENT(AREA)), 0, 0); break;
+    case PROGRAM_REFUSAL: refusal_results(sheetbendle_program_refusal(LENT(IMAGE), frame.number)); break;
+    case OPEN: refusal_results(sheetbendle_open(LENT(IMAGE), LENT(TABLE), LENT(AREA))); break;
     case GATHER: step_results(sheetbendle_gather(LENT(IMAGE), LENT(TABLE), LENT(AREA), frame.number)); break;
     case SETTLE: step_results(sheetbendle_settle(LENT(IMAGE), LENT(TABLE), LENT(AREA), frame.number)); break;
     case WHY: cause_results(sheetbendle_why(LENT(IMAGE), LENT(TABLE), LENT(AREA), frame.number)); break;

@@ -39,9 +39,9 @@ pub enum Measure {
     Instructions,
 }
 
-/// The numbers that a call returns, at most six; 0 behind the last.
+/// The numbers that a call returns, at most eight; 0 behind the last.
 pub type Results = [u64; RETURNED];
-const RETURNED: usize = 6;
+const RETURNED: usize = 8;
 
 pub type Lent<'a> = (Name, &'a mut dyn Carried);
 

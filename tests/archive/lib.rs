@@ -9,7 +9,7 @@ pub use buffer::{bytes, words, Buffer};
 pub use frame::Measure;
 
 use frame::{Call, Frame, Lent, Name, Results};
-use plain::{Cause, Count, Step, Text};
+use plain::{Cause, Count, Refusal, Step, Text};
 use std::io::{self, Read, Write};
 use std::ops::Range;
 use std::process::{Child, ChildStdin, ChildStdout, Command, Stdio};
@@ -71,11 +71,16 @@ impl Archive {
         start as usize..start.wrapping_add(length) as usize
     }
 
-    pub fn program_refusal(&mut self, image: &mut Buffer<u8>, number: usize) -> u32 {
+    pub fn program_refusal(&mut self, image: &mut Buffer<u8>, number: usize) -> Refusal {
         refusal(self.call(Call::ProgramRefusal, number, &mut [(Name::Image, image)]))
     }
 
-    pub fn open(&mut self, image: &mut Buffer<u8>, table: &mut Buffer<u32>, area: &mut Buffer<u32>) -> u32 {
+    pub fn open(
+        &mut self,
+        image: &mut Buffer<u8>,
+        table: &mut Buffer<u32>,
+        area: &mut Buffer<u32>,
+    ) -> Refusal {
         refusal(self.batch_call(Call::Open, image, table, area, 0))
     }
 
@@ -160,25 +165,29 @@ impl Archive {
     }
 }
 
-// The driver widens each result of 32 bits without a change, so nothing is cut off here.
+// The driver widens each result of 32 bits without a change, so nothing is cut off here. Where an
+// answer holds a refusal, its three numbers come first.
 
-fn refusal([refusal, ..]: Results) -> u32 {
-    refusal as u32
+fn refusal([number, program, instruction, ..]: Results) -> Refusal {
+    Refusal { number: number as u32, program: program as u32, instruction: instruction as u32 }
 }
 
-fn step([refusal, state, detail, ..]: Results) -> Step {
-    Step { refusal: refusal as u32, state: state as u32, detail: detail as u32 }
+fn step(results: Results) -> Step {
+    let [_, _, _, state, detail, ..] = results.map(|result| result as u32);
+    Step { refusal: refusal(results), state, detail }
 }
 
 fn cause(results: Results) -> Cause {
-    let [refusal, reason, cell, program, war_cell, war_program] = results.map(|result| result as u32);
-    Cause { refusal, reason, cell, program, war_cell, war_program }
+    let [_, _, _, reason, cell, program, war_cell, war_program] = results.map(|result| result as u32);
+    Cause { refusal: refusal(results), reason, cell, program, war_cell, war_program }
 }
 
-fn text([refusal, length, line, ..]: Results) -> Text {
-    Text { refusal: refusal as u32, length: length as u32, line: line as u32 }
+fn text(results: Results) -> Text {
+    let [_, _, _, length, line, ..] = results.map(|result| result as u32);
+    Text { refusal: refusal(results), length, line }
 }
 
-fn count([refusal, count, ..]: Results) -> Count {
-    Count { refusal: refusal as u32, count: count as u32 }
+fn count(results: Results) -> Count {
+    let [_, _, _, count, ..] = results.map(|result| result as u32);
+    Count { refusal: refusal(results), count }
 }

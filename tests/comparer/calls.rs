@@ -2,7 +2,7 @@
 
 use crate::lent::Lent;
 use archive::Archive;
-use plain::{Cause, Count, Step, Text};
+use plain::{Cause, Count, Refusal, Step, Text};
 use std::ops::Range;
 
 #[derive(Clone, Copy, Debug)]
@@ -22,7 +22,7 @@ pub enum Call {
 #[derive(Clone, Debug, PartialEq)]
 pub enum Answer {
     Part(Range<usize>),
-    Refusal(u32),
+    Refusal(Refusal),
     Step(Step),
     Cause(Cause),
     Count(Count),

@@ -3,7 +3,8 @@
 use crate::lent::Lent;
 use crate::made_up;
 use archive::{bytes, words};
-use material::assembler::{self, end};
+use material::assembler::{self, end, Instruction};
+use material::bad::{self, WAYS};
 use material::random::Random;
 use plain::area::{self, CARRIED, DETAIL, READS, READ_COUNT, SLOT_WORDS, STATE, STORES, STORE_COUNT, VALUES};
 use plain::image::{INSTRUCTIONS, INSTRUCTION_BYTES, LONGEST};
@@ -28,8 +29,8 @@ fn resize_list(random: &mut Random, lent: &mut Lent, programs: usize) {
     lent.list = words(&made_up::junk(random, entries));
 }
 
-/// An image that is too short or too long, has a bad header, offset, length or instruction, or any
-/// byte changed.
+/// An image that is too short or too long, has a bad header, offset or length, has bad instructions, or
+/// any byte changed.
 pub fn damaged_image(random: &mut Random, good: &[u8]) -> Vec<u8> {
     let mut image = good.to_vec();
     let length = image.len();
@@ -42,7 +43,7 @@ pub fn damaged_image(random: &mut Random, good: &[u8]) -> Vec<u8> {
         _ if length < 6 => image.push(0),
         5 => image[random.below(4)] = random.pick(&[0, 1, 2, 3, 64, 65, 255]),
         6 => damage_offset(random, &mut image),
-        7 => damage_instruction(random, &mut image),
+        7 => damage_instructions(random, &mut image),
         _ => image[random.below(length)] = random.byte(),
     }
     image
@@ -59,17 +60,29 @@ fn damage_offset(random: &mut Random, image: &mut [u8]) {
     }
 }
 
-/// Puts another instruction somewhere: any operation, zeros behind it, and then one of the four
-/// bytes at or past its limit.
-fn damage_instruction(random: &mut Random, image: &mut [u8]) {
+/// Puts other instructions somewhere: mostly one, sometimes two or three, of which the first in image
+/// order is told.
+fn damage_instructions(random: &mut Random, image: &mut [u8]) {
     let first = (2 * usize::from(image[0]) + 6).min(image.len());
     let instructions = (image.len() - first) / INSTRUCTION_BYTES;
     if instructions > 0 {
-        let start = first + INSTRUCTION_BYTES * random.below(instructions);
-        let instruction = &mut image[start..start + INSTRUCTION_BYTES];
-        instruction.copy_from_slice(&[random.below(10) as u8, 0, 0, 0]);
-        instruction[random.below(INSTRUCTION_BYTES)] = random.pick(&[1, 2, 7, 8, 9, 31, 32, 255]);
+        for _ in 0..random.pick(&[1, 1, 2, 3]) {
+            let start = first + INSTRUCTION_BYTES * random.below(instructions);
+            image[start..start + INSTRUCTION_BYTES].copy_from_slice(&odd_instruction(random));
+        }
     }
+}
+
+/// An instruction that is bad wherever it stands; or any operation, zeros behind it, and then one of the
+/// four bytes at or past its limit.
+fn odd_instruction(random: &mut Random) -> Instruction {
+    if random.percent(50) {
+        let way = random.pick(&WAYS);
+        return random.pick(&bad::instructions(way, INSTRUCTIONS - 1));
+    }
+    let mut instruction = [random.below(10) as u8, 0, 0, 0];
+    instruction[random.below(INSTRUCTION_BYTES)] = random.pick(&[1, 2, 7, 8, 9, 31, 32, 255]);
+    instruction
 }
 
 /// A table of another size; sometimes with the area that belongs to it.

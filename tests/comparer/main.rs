@@ -4,11 +4,13 @@
 //! the file always holds the seed of the sequence under way; the rest is the command that runs the
 //! archive's driver.
 
+mod bad;
 mod calls;
 mod damage;
 mod lent;
 mod made_up;
 mod pair;
+mod places;
 mod sequences;
 mod sheets;
 mod tally;

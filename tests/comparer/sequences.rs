@@ -1,6 +1,8 @@
 //! Random call sequences: batches played in any order with refused steps in between, one after the
-//! other by the next image; areas made up; damage to everything that is lent; and sheets.
+//! other by the next image; areas made up; damage to everything that is lent; sheets; and bad
+//! instructions.
 
+use crate::bad;
 use crate::calls::{Answer, Call};
 use crate::damage::damage;
 use crate::lent::Lent;
@@ -20,6 +22,9 @@ pub fn run(seed: u64, archive: &mut Archive, tally: &mut Tally) -> Result<(), Di
     archive.null_when_empty = random.percent(50);
     if random.percent(20) {
         return sheets::play(random, &mut Pair::new(sheets::nothing_lent(), archive, tally));
+    }
+    if random.percent(5) {
+        return bad::play(random, &mut Pair::new(sheets::nothing_lent(), archive, tally));
     }
     let cells = made_up::cells(random);
     let programs = made_up::programs(random);

@@ -1,5 +1,6 @@
 //! The bench sheet: each case as instructions, with what document 01 says comes of it.
-//! Document 01, "Bench sheet"; the examples of source 004 and V of source 000.
+//! Document 01, "Bench sheet"; the examples of source 004 and V of source 000. Case 14's refusal is that
+//! of document 02, request 2.
 
 use crate::assembler::{add, load, reject, set, skipequal, skipless, store, sub};
 use crate::assembler::{R0, R1, R2, R3};
@@ -163,8 +164,8 @@ fn case_14a() -> Case {
     case("14a", &[1, 2, 3], 1, &programs, outcome(&[(COMMITTED, 0)], &[0], &[1, 2, 3]))
 }
 
-/// 14. One further gives 4. It would not be taken.
+/// "Case 14 now gives 44": one further. It would not be taken.
 fn case_14b() -> Case {
     let programs = [vec![set(R1, 1), skipequal(R0, R1, 2), store(R0, R1)]];
-    case("14b", &[1, 2, 3], 1, &programs, Err(refusal::INSTRUCTION))
+    case("14b", &[1, 2, 3], 1, &programs, Err(refusal::SKIP.at(0, 1)))
 }

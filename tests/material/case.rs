@@ -1,17 +1,18 @@
 //! A worked case: a batch to run, with what is to come of it.
 
 use crate::assembler::{image, sheet, Instruction};
+use plain::Refusal;
 
 pub type Program = Vec<Instruction>;
 
-/// A batch to run, and what comes of it: a refusal's number or an outcome.
+/// A batch to run, and what comes of it: a refusal or an outcome.
 pub struct Case {
     pub name: &'static str,
     pub table: Vec<u32>,
     pub image: Vec<u8>,
     /// The image as text, also where an instruction is bad.
     pub sheet: Vec<u8>,
-    pub expected: Result<Outcome, u32>,
+    pub expected: Result<Outcome, Refusal>,
 }
 
 /// State and detail of each program, the listed order and the table at the end.
@@ -27,11 +28,11 @@ pub fn case(
     table: &[u32],
     rule: u8,
     programs: &[Program],
-    expected: Result<Outcome, u32>,
+    expected: Result<Outcome, Refusal>,
 ) -> Case {
     Case { name, table: table.to_vec(), image: image(rule, programs), sheet: sheet(rule, programs), expected }
 }
 
-pub fn outcome(slots: &[(u32, u32)], order: &[u32], table: &[u32]) -> Result<Outcome, u32> {
+pub fn outcome(slots: &[(u32, u32)], order: &[u32], table: &[u32]) -> Result<Outcome, Refusal> {
     Ok(Outcome { slots: slots.to_vec(), order: order.to_vec(), table: table.to_vec() })
 }

@@ -1,7 +1,8 @@
-//! What the tests are made of: an assembler, the bench sheet's cases, the lessons' batches, sheets at a
-//! limit, and random programs.
+//! What the tests are made of: an assembler, the bench sheet's cases, the lessons' batches, bad
+//! instructions, sheets at a limit, and random programs.
 
 pub mod assembler;
+pub mod bad;
 pub mod bench_sheet;
 pub mod case;
 pub mod lessons;

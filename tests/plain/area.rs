@@ -2,7 +2,7 @@
 //! Document 01, "The work area". No other file knows where a word lies.
 
 use crate::image::{Image, INSTRUCTIONS};
-use crate::refusal;
+use crate::refusal::{self, Refusal};
 
 /// "1 to 256 cells (T)."
 pub const CELLS: usize = 256;
@@ -37,8 +37,8 @@ pub fn words(cells: usize, programs: usize) -> usize {
     2 * cells + SLOT_WORDS * programs
 }
 
-/// Checks 1 to 6, which opening makes and every later call makes first.
-pub fn check_sizes<'a>(image: &'a [u8], table: &[u32], area: &[u32]) -> Result<Image<'a>, u32> {
+/// The image's checks, then 5 and 6, which opening makes and every later call makes first.
+pub fn check_sizes<'a>(image: &'a [u8], table: &[u32], area: &[u32]) -> Result<Image<'a>, Refusal> {
     let image = Image::check(image)?;
     if table.is_empty() || table.len() > CELLS {
         return Err(refusal::TABLE_SIZE);
@@ -49,8 +49,8 @@ pub fn check_sizes<'a>(image: &'a [u8], table: &[u32], area: &[u32]) -> Result<I
     Ok(image)
 }
 
-/// Checks 1 to 7.
-pub fn check<'a>(image: &'a [u8], table: &[u32], area: &[u32]) -> Result<Image<'a>, u32> {
+/// The same, then check 7.
+pub fn check<'a>(image: &'a [u8], table: &[u32], area: &[u32]) -> Result<Image<'a>, Refusal> {
     let image = check_sizes(image, table, area)?;
     let (marks, slots) = area.split_at(2 * table.len());
     let marks_are_good = marks.iter().all(|&mark| mark as usize <= image.count());
@@ -85,7 +85,7 @@ pub fn values(slot: &[u32]) -> &[u32] {
 }
 
 /// Check 9 of the calls that need a batch which is settled: "while any state is 0 or 1".
-pub fn check_settled(area: &[u32], cells: usize) -> Result<(), u32> {
+pub fn check_settled(area: &[u32], cells: usize) -> Result<(), Refusal> {
     if states(area, cells).any(|state| state <= GATHERED) {
         Err(refusal::STATE)
     } else {

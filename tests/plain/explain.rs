@@ -5,6 +5,7 @@ use crate::area::{CARRIED, COMMITTED, FAULTED, REJECTED, STATE_WORDS};
 use crate::dependencies::{Dependencies, Pair};
 use crate::input::{self, done, Batch};
 use crate::machine::FAULT_AT_LOAD;
+use crate::refusal::Refusal;
 use crate::steps::{RAW, WAW};
 use crate::{why, Cause};
 
@@ -22,7 +23,7 @@ struct Said {
 }
 
 /// What is printed of one program: a line that a script can read, then lines indented by two spaces.
-fn page(batch: &Batch, number: usize) -> Result<String, u32> {
+fn page(batch: &Batch, number: usize) -> Result<String, Refusal> {
     let step = batch.steps[number];
     let Said { facts, words } = match step.state {
         COMMITTED => committed(batch, number),
@@ -57,7 +58,7 @@ fn committed(batch: &Batch, number: usize) -> Said {
 }
 
 /// A carried program: the reason with its cause, and how it goes on.
-fn carried(batch: &Batch, number: usize) -> Result<Said, u32> {
+fn carried(batch: &Batch, number: usize) -> Result<Said, Refusal> {
     let cause = why(batch.image, &batch.table, &batch.area, number);
     done(cause.refusal)?;
     let Said { facts, mut words } = match cause.reason {

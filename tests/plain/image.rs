@@ -1,8 +1,8 @@
 //! The image: its limits, its counts and offsets, and a program as a part of it.
-//! Document 01, "Sizes" and "The image: counts and offsets"; checks 1 to 4 and 8.
+//! Document 01, "Sizes" and "The image: counts and offsets"; checks 1 to 3, 41 to 44 and 8.
 
-use crate::machine;
-use crate::refusal::{self, DONE};
+use crate::bad::BadInstruction;
+use crate::refusal::{self, Refusal, DONE};
 
 /// "0 to 64 programs, 0 to 32 instructions each."
 pub const PROGRAMS: usize = 64;
@@ -21,7 +21,7 @@ const RULE: usize = 2;
 const ZERO: usize = 3;
 const OFFSETS: usize = 4;
 
-/// An image that has passed checks 1 to 4.
+/// An image that has passed checks 1 to 3, so that each program can be found.
 #[derive(Clone, Copy)]
 pub struct Image<'a> {
     bytes: &'a [u8],
@@ -36,23 +36,32 @@ pub fn program(image: &[u8], number: usize) -> &[u8] {
     }
 }
 
-/// The refusal's number of the same question, or 0.
-pub fn program_refusal(image: &[u8], number: usize) -> u32 {
+/// The refusal of the same question.
+pub fn program_refusal(image: &[u8], number: usize) -> Refusal {
     match numbered_program(image, number) {
         Ok(_) => DONE,
         Err(refusal) => refusal,
     }
 }
 
-fn numbered_program(image: &[u8], number: usize) -> Result<&[u8], u32> {
+fn numbered_program(image: &[u8], number: usize) -> Result<&[u8], Refusal> {
     let image = Image::check(image)?;
     image.check_number(number)?;
     Ok(image.program(number))
 }
 
 impl<'a> Image<'a> {
-    /// Checks 1 to 4, in this order.
-    pub fn check(bytes: &'a [u8]) -> Result<Image<'a>, u32> {
+    /// Checks 1 to 3, then 41 to 44.
+    pub fn check(bytes: &'a [u8]) -> Result<Image<'a>, Refusal> {
+        let image = Image::check_layout(bytes)?;
+        match BadInstruction::first(image.programs()) {
+            None => Ok(image),
+            Some(bad) => Err(bad.refusal()),
+        }
+    }
+
+    /// Checks 1 to 3, in this order: then every program lies where its offsets say.
+    pub fn check_layout(bytes: &'a [u8]) -> Result<Image<'a>, Refusal> {
         if bytes.len() < SHORTEST || bytes.len() > LONGEST {
             return Err(refusal::IMAGE_SIZE);
         }
@@ -63,14 +72,11 @@ impl<'a> Image<'a> {
         if bytes.len() < first_offset(image.count) || !image.offsets_are_good() {
             return Err(refusal::OFFSETS);
         }
-        if !image.instructions_are_good() {
-            return Err(refusal::INSTRUCTION);
-        }
         Ok(image)
     }
 
     /// Check 8.
-    pub fn check_number(&self, number: usize) -> Result<(), u32> {
+    pub fn check_number(&self, number: usize) -> Result<(), Refusal> {
         if number < self.count {
             Ok(())
         } else {
@@ -101,6 +107,11 @@ impl<'a> Image<'a> {
         &self.bytes[self.offset(number)..self.offset(number + 1)]
     }
 
+    /// All programs, by number.
+    pub fn programs(&self) -> impl Iterator<Item = &'a [u8]> + '_ {
+        (0..self.count).map(|number| self.program(number))
+    }
+
     fn offset(&self, place: usize) -> usize {
         number_at(self.bytes, OFFSETS + 2 * place)
     }
@@ -124,11 +135,6 @@ impl<'a> Image<'a> {
             start = end;
         }
         start == self.bytes.len()
-    }
-
-    /// "The check stops at the first bad instruction of the first bad program."
-    fn instructions_are_good(&self) -> bool {
-        (0..self.count).all(|number| machine::is_good(self.program(number)))
     }
 }
 

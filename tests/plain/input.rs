@@ -3,7 +3,7 @@
 
 use crate::area::{self, CELLS};
 use crate::image::Image;
-use crate::refusal::{self, DONE};
+use crate::refusal::{self, Refusal, DONE};
 use crate::{gather, open, settle, Step};
 
 /// A batch that was run to its end.
@@ -19,16 +19,16 @@ pub struct Batch<'a> {
 
 /// All that a program prints for what it reads: its own text of the batch, or the refusal. "Another
 /// refusal prints its number so; that line is then the whole output."
-pub fn printed(input: &[u8], text: impl Fn(&Batch) -> Result<String, u32>) -> String {
+pub fn printed(input: &[u8], text: impl Fn(&Batch) -> Result<String, Refusal>) -> String {
     match Batch::run(input).and_then(|batch| text(&batch)) {
         Ok(text) => text,
-        Err(refusal) => format!("refused {refusal}\n"),
+        Err(refusal) => format!("refused {}\n", refusal.number),
     }
 }
 
 impl Batch<'_> {
     /// "It opens, gathers and settles in number order."
-    fn run(input: &[u8]) -> Result<Batch<'_>, u32> {
+    fn run(input: &[u8]) -> Result<Batch<'_>, Refusal> {
         let (mut table, image) = table_and_image(input)?;
         let checked = Image::check(image)?;
         let (programs, rule) = (checked.count(), checked.rule());
@@ -51,7 +51,7 @@ impl Batch<'_> {
 
 /// "The program reads T in two bytes (low first), T cells of four bytes (low first), then the
 /// image. Fewer bytes than that prefix needs, or T outside 1 to 256, prints refused 5."
-fn table_and_image(input: &[u8]) -> Result<(Vec<u32>, &[u8]), u32> {
+pub fn table_and_image(input: &[u8]) -> Result<(Vec<u32>, &[u8]), Refusal> {
     let (size, rest) = input.split_first_chunk::<2>().ok_or(refusal::TABLE_SIZE)?;
     let cells = usize::from(u16::from_le_bytes(*size));
     if cells == 0 || cells > CELLS || rest.len() < 4 * cells {
@@ -63,7 +63,7 @@ fn table_and_image(input: &[u8]) -> Result<(Vec<u32>, &[u8]), u32> {
 }
 
 /// A refusal ends the program.
-pub fn done(refusal: u32) -> Result<(), u32> {
+pub fn done(refusal: Refusal) -> Result<(), Refusal> {
     if refusal == DONE {
         Ok(())
     } else {

@@ -18,10 +18,12 @@
 //! | file | request of document 02 |
 //! |---|---|
 //! | `sheet.rs` | 1, a sheet we can type |
+//! | `bad.rs` | 2, which instruction is bad |
 //! | `why.rs` | 3, tell me why I was carried |
 //! | `explain.rs` | 3, the program that tells it in words |
 
 pub mod area;
+pub mod bad;
 pub mod batch;
 mod dependencies;
 pub mod explain;
@@ -38,6 +40,7 @@ mod why;
 pub use image::{program, program_refusal};
 pub use next::next_image;
 pub use order::order;
+pub use refusal::Refusal;
 pub use sheet::{image_of, sheet_of, Text};
 pub use steps::{gather, open, settle};
 pub use why::{why, Cause};
@@ -45,7 +48,7 @@ pub use why::{why, Cause};
 /// What gathering and settling return: the slot's state and detail, or a refusal and two zeros.
 #[derive(Clone, Copy, Debug, PartialEq, Eq)]
 pub struct Step {
-    pub refusal: u32,
+    pub refusal: Refusal,
     pub state: u32,
     pub detail: u32,
 }
@@ -53,12 +56,12 @@ pub struct Step {
 /// What the order (a count) and the next image (a length) return, or a refusal and a zero.
 #[derive(Clone, Copy, Debug, PartialEq, Eq)]
 pub struct Count {
-    pub refusal: u32,
+    pub refusal: Refusal,
     pub count: u32,
 }
 
 impl Step {
-    fn of(answer: Result<(u32, u32), u32>) -> Step {
+    fn of(answer: Result<(u32, u32), Refusal>) -> Step {
         match answer {
             Ok((state, detail)) => Step { refusal: refusal::DONE, state, detail },
             Err(refusal) => Step { refusal, state: 0, detail: 0 },
@@ -67,7 +70,7 @@ impl Step {
 }
 
 impl Count {
-    fn of(answer: Result<usize, u32>) -> Count {
+    fn of(answer: Result<usize, Refusal>) -> Count {
         match answer {
             Ok(count) => Count { refusal: refusal::DONE, count: count as u32 },
             Err(refusal) => Count { refusal, count: 0 },

@@ -32,32 +32,53 @@ pub enum End {
     Faulted { kind: u32, instruction: u32 },
 }
 
-/// Whether every instruction of a program is good, reached or not.
-pub fn is_good(program: &[u8]) -> bool {
-    let length = program.len() / INSTRUCTION_BYTES;
-    program
-        .chunks_exact(INSTRUCTION_BYTES)
-        .enumerate()
-        .all(|(place, instruction)| instruction_is_good(instruction, place, length))
+/// What is wrong with a bad instruction, and the byte that shows it.
+#[derive(Clone, Copy, Debug, PartialEq, Eq)]
+pub enum Flaw {
+    Operation(u8),
+    Register(u8),
+    Unused(u8),
+    Skip(u8),
 }
 
-/// Whether the instruction at this place of a program of so many instructions is good.
-fn instruction_is_good(instruction: &[u8], place: usize, length: usize) -> bool {
+/// The first bad instruction of a program, reached or not: its number, and what is wrong with it.
+pub fn first_flaw(program: &[u8]) -> Option<(usize, Flaw)> {
+    let length = program.len() / INSTRUCTION_BYTES;
+    let mut instructions = program.chunks_exact(INSTRUCTION_BYTES).enumerate();
+    instructions.find_map(|(place, instruction)| {
+        let flaw = flaw(instruction, length - place - 1)?;
+        Some((place, flaw))
+    })
+}
+
+/// What is wrong with an instruction behind which so many follow in its program, if anything is. Where it
+/// is bad in several ways, the first of document 02's list: in every operation the bytes that name a
+/// register stand before the unused ones and the skip's.
+fn flaw(instruction: &[u8], following: usize) -> Option<Flaw> {
     let [operation, a, b, c] = bytes_of(instruction);
     match operation {
-        END => a == 0 && b == 0 && c == 0,
-        SET => is_register(a),
-        LOAD | STORE => is_register(a) && is_register(b) && c == 0,
-        ADD | SUB => is_register(a) && is_register(b) && is_register(c),
-        // "A skip at instruction i of m needs i+1+c ≤ m, taken or not."
-        SKIPLESS | SKIPEQUAL => is_register(a) && is_register(b) && place + 1 + usize::from(c) <= length,
-        REJECT => b == 0 && c == 0,
-        _ => false,
+        END => unused(a).or(unused(b)).or(unused(c)),
+        SET => register(a),
+        LOAD | STORE => register(a).or(register(b)).or(unused(c)),
+        ADD | SUB => register(a).or(register(b)).or(register(c)),
+        SKIPLESS | SKIPEQUAL => register(a).or(register(b)).or(skip(c, following)),
+        REJECT => unused(b).or(unused(c)),
+        _ => Some(Flaw::Operation(operation)),
     }
 }
 
-fn is_register(byte: u8) -> bool {
-    usize::from(byte) < REGISTERS
+/// "Every byte that names a register is 0 to 7."
+fn register(byte: u8) -> Option<Flaw> {
+    (usize::from(byte) >= REGISTERS).then_some(Flaw::Register(byte))
+}
+
+fn unused(byte: u8) -> Option<Flaw> {
+    (byte != 0).then_some(Flaw::Unused(byte))
+}
+
+/// "A skip at instruction i of m needs i+1+c ≤ m, taken or not": it leaves out no more than follow.
+fn skip(byte: u8, following: usize) -> Option<Flaw> {
+    (usize::from(byte) > following).then_some(Flaw::Skip(byte))
 }
 
 fn bytes_of(instruction: &[u8]) -> [u8; INSTRUCTION_BYTES] {

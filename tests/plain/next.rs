@@ -1,9 +1,11 @@
 //! The next image.
-//! Document 01, "The steps"; its checks go 1 to 7, 9, 21 to 24, 11, 10.
+//! Document 01, "The steps"; its checks go 1 to 3, 41 to 44, 5 to 7, 9, 21 to 23, 61 to 64,
+//! 11, 10.
 
 use crate::area::{self, CARRIED};
 use crate::image::{self, first_offset, Image, PROGRAMS};
-use crate::{refusal, Count};
+use crate::refusal::{self, Refusal};
+use crate::Count;
 
 /// "The carried programs in number order, then the fresh image's programs, with the fresh image's
 /// rule byte." The output beyond the image is untouched.
@@ -17,14 +19,14 @@ fn next_image_checked(
     area: &[u32],
     fresh: &[u8],
     out: &mut [u8],
-) -> Result<usize, u32> {
+) -> Result<usize, Refusal> {
     let image = area::check(image, table, area)?;
     area::check_settled(area, table.len())?;
-    let fresh = Image::check(fresh).map_err(|refusal| refusal::FRESH + refusal)?;
+    let fresh = Image::check(fresh).map_err(Refusal::of_fresh)?;
     let next = || {
         let carried = area::states(area, table.len()).enumerate().filter(|&(_, state)| state == CARRIED);
         let carried_programs = carried.map(|(number, _)| image.program(number));
-        carried_programs.chain((0..fresh.count()).map(|number| fresh.program(number)))
+        carried_programs.chain(fresh.programs())
     };
     let count = next().count();
     if count > PROGRAMS {

@@ -3,7 +3,8 @@
 
 use crate::area::{self, CELLS, COMMITTED};
 use crate::image::PROGRAMS;
-use crate::{refusal, Count};
+use crate::refusal::{self, Refusal};
+use crate::Count;
 
 /// "Repeatedly take the smallest-numbered committed program not yet taken, none of whose stored
 /// cells is read by another committed program not yet taken." The list beyond the committed count
@@ -12,7 +13,7 @@ pub fn order(image: &[u8], table: &[u32], area: &[u32], list: &mut [u32]) -> Cou
     Count::of(order_checked(image, table, area, list))
 }
 
-fn order_checked(image: &[u8], table: &[u32], area: &[u32], list: &mut [u32]) -> Result<usize, u32> {
+fn order_checked(image: &[u8], table: &[u32], area: &[u32], list: &mut [u32]) -> Result<usize, Refusal> {
     let image = area::check(image, table, area)?;
     area::check_settled(area, table.len())?;
     if list.len() < image.count() {

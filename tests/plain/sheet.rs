@@ -1,10 +1,12 @@
 //! A sheet that can be typed: the image of a sheet, and the sheet of an image.
-//! Document 02, request 1; the checks of a sheet go 51, 2, 3, 4, 10, those of an image 1 to 4, 10.
+//! Document 02, request 1; the checks of a sheet go 51, 2, 3, 42 to 44, 10, those of an image 1 to 3,
+//! 41 to 44, 10.
 
+use crate::bad::BadInstruction;
 use crate::image::{self, first_offset, Image};
 use crate::image::{INSTRUCTIONS, INSTRUCTION_BYTES, LAST_RULE, PROGRAMS, PROGRAM_BYTES};
-use crate::machine::{self, NAMES};
-use crate::refusal::{self, DONE};
+use crate::machine::NAMES;
+use crate::refusal::{self, Refusal, DONE};
 
 /// The words of a sheet that are no instruction's name.
 const RULE: &[u8] = b"rule";
@@ -18,7 +20,7 @@ pub const LONGEST: usize = 7 + PROGRAMS * (8 + 16 * INSTRUCTIONS + (INSTRUCTIONS
 /// What both calls return: the length of what was written; or a refusal, and for 51 the line.
 #[derive(Clone, Copy, Debug, PartialEq, Eq)]
 pub struct Text {
-    pub refusal: u32,
+    pub refusal: Refusal,
     pub length: u32,
     /// The number, from 1, of the line that its place does not allow; 0 for everything but 51.
     pub line: u32,
@@ -29,7 +31,7 @@ impl Text {
         Text { refusal: DONE, length: length as u32, line: 0 }
     }
 
-    fn refused(refusal: u32) -> Text {
+    fn refused(refusal: Refusal) -> Text {
         Text { refusal, length: 0, line: 0 }
     }
 
@@ -52,7 +54,7 @@ pub fn sheet_of(image: &[u8], out: &mut [u8]) -> Text {
 }
 
 /// What a sheet says whose lines are all allowed: as much of it as an image can hold.
-struct Sheet {
+pub struct Sheet {
     rule: u8,
     /// How many programs it has, also where they are too many.
     count: usize,
@@ -66,7 +68,7 @@ struct Sheet {
 impl Sheet {
     /// Check 51: what the sheet says, or the number, from 1, of "the first line that its place does
     /// not allow (a missing first line, an unended last one)".
-    fn read(sheet: &[u8]) -> Result<Sheet, usize> {
+    pub fn read(sheet: &[u8]) -> Result<Sheet, usize> {
         let mut lines = sheet.split_inclusive(|&byte| byte == b'\n');
         let rule = lines.next().and_then(rule_line).ok_or(1usize)?;
         let mut sheet =
@@ -95,16 +97,22 @@ impl Sheet {
         }
     }
 
-    /// Checks 2, 3, 4 and 10; then writes the image, and returns its length.
-    fn write_image(&self, out: &mut [u8]) -> Result<usize, u32> {
+    /// Checks 2 and 3: "2 over 64 programs; 3 a program over 32 instructions".
+    pub fn check_sizes(&self) -> Result<(), Refusal> {
         if self.count > PROGRAMS {
-            return Err(refusal::HEADER);
+            Err(refusal::HEADER)
+        } else if self.most > INSTRUCTIONS {
+            Err(refusal::OFFSETS)
+        } else {
+            Ok(())
         }
-        if self.most > INSTRUCTIONS {
-            return Err(refusal::OFFSETS);
-        }
-        if !self.programs().all(machine::is_good) {
-            return Err(refusal::INSTRUCTION);
+    }
+
+    /// Checks 2 and 3, 42 to 44, and 10; then writes the image, and returns its length.
+    fn write_image(&self, out: &mut [u8]) -> Result<usize, Refusal> {
+        self.check_sizes()?;
+        if let Some(bad) = BadInstruction::first(self.programs()) {
+            return Err(bad.refusal());
         }
         let length = first_offset(self.count) + self.programs().map(<[u8]>::len).sum::<usize>();
         let out = out.get_mut(..length).ok_or(refusal::TOO_SHORT)?;
@@ -113,7 +121,7 @@ impl Sheet {
     }
 
     /// The programs, as an image has them, of a sheet that has not too many.
-    fn programs(&self) -> impl Iterator<Item = &[u8]> {
+    pub fn programs(&self) -> impl Iterator<Item = &[u8]> {
         self.code[..self.count].iter().zip(self.lengths).map(|(code, length)| &code[..length])
     }
 }
@@ -157,14 +165,13 @@ fn byte(digits: &[u8]) -> Option<u8> {
     }
 }
 
-/// Checks 1 to 4 and 10; then writes the sheet, and returns its length.
-fn write_sheet(image: &[u8], out: &mut [u8]) -> Result<usize, u32> {
+/// The image's checks and 10; then writes the sheet, and returns its length.
+fn write_sheet(image: &[u8], out: &mut [u8]) -> Result<usize, Refusal> {
     let image = Image::check(image)?;
-    let programs = || (0..image.count()).map(|number| image.program(number));
     let mut length = 0;
-    say(image.rule_byte(), programs(), |text| length += text.len());
+    say(image.rule_byte(), image.programs(), |text| length += text.len());
     let mut left = out.get_mut(..length).ok_or(refusal::TOO_SHORT)?;
-    say(image.rule_byte(), programs(), |text| {
+    say(image.rule_byte(), image.programs(), |text| {
         let (place, rest) = std::mem::take(&mut left).split_at_mut(text.len());
         place.copy_from_slice(text);
         left = rest;

@@ -5,7 +5,7 @@ use crate::area::{self, mark_of, Place};
 use crate::area::{CARRIED, COMMITTED, FAULTED, GATHERED, REJECTED, STATE, WAITING};
 use crate::dependencies::Dependencies;
 use crate::machine::{self, End};
-use crate::refusal::{self, DONE};
+use crate::refusal::{self, Refusal, DONE};
 use crate::Step;
 
 /// "Carried for one reason out of three: 1 WAW, looked at first; 2 RAW (Rule 1); 3 RAW with WAR
@@ -15,7 +15,7 @@ pub const RAW: u32 = 2;
 pub const RAW_WITH_WAR: u32 = 3;
 
 /// "Opening sets the whole area to 0."
-pub fn open(image: &[u8], table: &[u32], area: &mut [u32]) -> u32 {
+pub fn open(image: &[u8], table: &[u32], area: &mut [u32]) -> Refusal {
     match area::check_sizes(image, table, area) {
         Ok(_) => {
             area.fill(0);
@@ -31,7 +31,12 @@ pub fn gather(image: &[u8], table: &[u32], area: &mut [u32], number: usize) -> S
     Step::of(gather_checked(image, table, area, number))
 }
 
-fn gather_checked(image: &[u8], table: &[u32], area: &mut [u32], number: usize) -> Result<(u32, u32), u32> {
+fn gather_checked(
+    image: &[u8],
+    table: &[u32],
+    area: &mut [u32],
+    number: usize,
+) -> Result<(u32, u32), Refusal> {
     let image = area::check(image, table, area)?;
     image.check_number(number)?;
     let Place { write_marks, read_marks, mut slot } = Place::of(area, table.len(), number);
@@ -79,7 +84,7 @@ fn settle_checked(
     table: &mut [u32],
     area: &mut [u32],
     number: usize,
-) -> Result<(u32, u32), u32> {
+) -> Result<(u32, u32), Refusal> {
     let image = area::check(image, table, area)?;
     image.check_number(number)?;
     let cells = table.len();

@@ -1,15 +1,15 @@
 //! Why a program was carried: the reason, with its cause.
-//! Document 02, request 3; its checks go 1 to 9, 13, 15.
+//! Document 02, request 3; its checks go 1 to 3, 41 to 44, 5 to 9, 13, 15.
 
 use crate::area::{self, CARRIED, DETAIL, STATE};
 use crate::dependencies::{Dependencies, Pair};
-use crate::refusal::{self, DONE};
+use crate::refusal::{self, Refusal, DONE};
 use crate::steps::{reason_to_carry, RAW_WITH_WAR, WAW};
 
 /// What why returns: the reason and its cause, or a refusal and zeros.
 #[derive(Clone, Copy, Debug, Default, PartialEq, Eq)]
 pub struct Cause {
-    pub refusal: u32,
+    pub refusal: Refusal,
     pub reason: u32,
     /// The pair of WAW for reason 1, of RAW for reasons 2 and 3.
     pub cell: u32,
@@ -29,7 +29,7 @@ pub fn why(image: &[u8], table: &[u32], area: &[u32], number: usize) -> Cause {
     }
 }
 
-fn why_checked(image: &[u8], table: &[u32], area: &[u32], number: usize) -> Result<Cause, u32> {
+fn why_checked(image: &[u8], table: &[u32], area: &[u32], number: usize) -> Result<Cause, Refusal> {
     let image = area::check(image, table, area)?;
     image.check_number(number)?;
     area::check_settled(area, table.len())?;

@@ -9,10 +9,10 @@ use plain::area::{self, GATHERED};
 use plain::batch::printed;
 use plain::image::PROGRAMS;
 use plain::refusal::DONE;
-use plain::{gather, open, order, settle};
+use plain::{gather, open, order, settle, Refusal};
 
 /// Opens, gathers and settles a case in number order; its outcome, and the area at the end.
-fn run(case: &Case) -> Result<(Outcome, Vec<u32>), u32> {
+fn run(case: &Case) -> Result<(Outcome, Vec<u32>), Refusal> {
     let programs = usize::from(case.image[0]);
     let mut table = case.table.clone();
     let mut area = vec![7; area::words(table.len(), programs)];
@@ -89,7 +89,7 @@ fn case_13_reads_0_and_2_and_stores_3() {
 #[test]
 fn the_program_refuses_what_it_must() {
     let case = named("14b");
-    assert_eq!(printed(&input(&case.table, &case.image)), "refused 4\n");
+    assert_eq!(printed(&input(&case.table, &case.image)), "refused 44\n");
     for input in [&[][..], &[1], &[0, 0], &[1, 1], &[1, 0, 9, 9, 9], &[2, 0, 1, 1, 1, 1, 2, 2, 2]] {
         assert_eq!(printed(input), "refused 5\n");
     }

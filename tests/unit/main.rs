@@ -1,6 +1,8 @@
-//! The independent implementation's own tests: the bench sheet, every row of the refusals, sheets that
-//! can be typed, why a program was carried, and how the program `why` says it.
+//! The independent implementation's own tests: the bench sheet, every row of the refusals, which
+//! instruction is bad, sheets that can be typed, why a program was carried, and how the program `why`
+//! says it.
 
+mod bad;
 mod bench_sheet;
 mod explain;
 mod refusals;

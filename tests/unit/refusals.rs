@@ -1,11 +1,13 @@
 //! Every row of "What each refusal says", in every way to earn it, for every call that can.
 
-use material::assembler::{end, image, load, set, store, Instruction, R0, R1};
+use material::assembler::{end, image, load, set, store, R0, R1};
+use material::bad::{self, following, good_programs, places, replaced, WAYS};
 use plain::area::{words, DETAIL, READS, READ_COUNT, SLOT_WORDS, STATE, STORES, STORE_COUNT};
 use plain::area::{CARRIED, COMMITTED, FAULTED, GATHERED, REJECTED, WAITING};
 use plain::refusal::{self, DONE};
 use plain::steps::{RAW, RAW_WITH_WAR, WAW};
-use plain::{gather, next_image, open, order, program, program_refusal, settle, why, Cause};
+use plain::{gather, next_image, open, order, program, program_refusal, settle, why};
+use plain::{Cause, Count, Refusal, Step};
 
 const CELLS: usize = 3;
 
@@ -55,40 +57,34 @@ impl Lent {
         &mut self.area[place]
     }
 
-    fn open(&mut self) -> u32 {
+    fn open(&mut self) -> Refusal {
         self.unless_refused(|lent| open(&lent.image, &lent.table, &mut lent.area))
     }
 
-    fn gather(&mut self, number: usize) -> u32 {
-        self.unless_refused(|lent| gather(&lent.image, &lent.table, &mut lent.area, number).refusal)
+    fn gather(&mut self, number: usize) -> Refusal {
+        self.unless_refused(|lent| of_step(gather(&lent.image, &lent.table, &mut lent.area, number)))
     }
 
-    fn settle(&mut self, number: usize) -> u32 {
-        self.unless_refused(|lent| settle(&lent.image, &mut lent.table, &mut lent.area, number).refusal)
+    fn settle(&mut self, number: usize) -> Refusal {
+        self.unless_refused(|lent| of_step(settle(&lent.image, &mut lent.table, &mut lent.area, number)))
     }
 
-    fn order(&mut self) -> u32 {
-        self.unless_refused(|lent| order(&lent.image, &lent.table, &lent.area, &mut lent.list).refusal)
+    fn order(&mut self) -> Refusal {
+        self.unless_refused(|lent| of_count(order(&lent.image, &lent.table, &lent.area, &mut lent.list)))
     }
 
-    fn next_image(&mut self) -> u32 {
+    fn next_image(&mut self) -> Refusal {
         self.unless_refused(|lent| {
-            next_image(&lent.image, &lent.table, &lent.area, &lent.fresh, &mut lent.out).refusal
+            of_count(next_image(&lent.image, &lent.table, &lent.area, &lent.fresh, &mut lent.out))
         })
     }
 
-    /// "A refusal returns its number, 0 for every other result."
-    fn why(&mut self, number: usize) -> u32 {
-        self.unless_refused(|lent| {
-            let cause = why(&lent.image, &lent.table, &lent.area, number);
-            let refusal = cause.refusal;
-            assert!(refusal == DONE || cause == Cause { refusal, ..Cause::default() });
-            refusal
-        })
+    fn why(&mut self, number: usize) -> Refusal {
+        self.unless_refused(|lent| of_cause(why(&lent.image, &lent.table, &lent.area, number)))
     }
 
     /// "A refusal changes no lent memory."
-    fn unless_refused(&mut self, call: impl Fn(&mut Lent) -> u32) -> u32 {
+    fn unless_refused(&mut self, call: impl Fn(&mut Lent) -> Refusal) -> Refusal {
         let before = (self.table.clone(), self.area.clone(), self.list.clone(), self.out.clone());
         let refusal = call(self);
         let after = (&self.table, &self.area, &self.list, &self.out);
@@ -96,19 +92,37 @@ impl Lent {
         refusal
     }
 
-    /// All six calls that are lent image, table and area refuse with this number.
-    fn assert_all_refuse(mut self, refusal: u32) {
+    /// All six calls that are lent image, table and area refuse so.
+    fn assert_all_refuse(mut self, refusal: Refusal) {
         assert_eq!(self.open(), refusal);
         self.assert_all_but_opening_refuse(refusal);
     }
 
-    fn assert_all_but_opening_refuse(mut self, refusal: u32) {
+    fn assert_all_but_opening_refuse(mut self, refusal: Refusal) {
         assert_eq!(self.gather(0), refusal);
         assert_eq!(self.settle(0), refusal);
         assert_eq!(self.order(), refusal);
         assert_eq!(self.next_image(), refusal);
         assert_eq!(self.why(0), refusal);
     }
+}
+
+// An answer's refusal. "A refusal returns its number, 0 for every other result."
+
+fn of_step(Step { refusal, state, detail }: Step) -> Refusal {
+    assert!(refusal == DONE || (state, detail) == (0, 0));
+    refusal
+}
+
+fn of_count(Count { refusal, count }: Count) -> Refusal {
+    assert!(refusal == DONE || count == 0);
+    refusal
+}
+
+fn of_cause(cause: Cause) -> Refusal {
+    let refusal = cause.refusal;
+    assert!(refusal == DONE || cause == Cause { refusal, ..Cause::default() });
+    refusal
 }
 
 fn two_programs() -> Vec<u8> {
@@ -122,25 +136,23 @@ fn changed(change: impl Fn(&mut Vec<u8>)) -> Vec<u8> {
     image
 }
 
-/// An image gives this number at every call, and that of a fresh image where it is the fresh one.
-fn assert_image_refused(image: &[u8], refusal: u32) {
+/// An image gives this refusal at every call, and that of a fresh image where it is the fresh one.
+fn assert_image_refused(image: &[u8], refusal: Refusal) {
     assert_eq!(program_refusal(image, 0), refusal);
     assert!(program(image, 0).is_empty());
     Lent { image: image.to_vec(), ..Lent::opened() }.assert_all_refuse(refusal);
     let mut lent = Lent { fresh: image.to_vec(), ..Lent::in_states([COMMITTED, CARRIED]) };
-    assert_eq!(lent.next_image(), refusal::FRESH + refusal);
+    assert_eq!(lent.next_image(), refusal.of_fresh());
 }
 
 /// The names that the tests below use stand for the document's numbers; so do those of the states
 /// and of the reasons to carry a program.
 #[test]
 fn names_are_the_documents_numbers() {
-    let refusals = [
-        DONE,
-        refusal::IMAGE_SIZE,
-        refusal::HEADER,
-        refusal::OFFSETS,
-        refusal::INSTRUCTION,
+    let numbers = |refusals: &[Refusal]| refusals.iter().map(|refusal| refusal.number).collect::<Vec<_>>();
+    let image = [refusal::IMAGE_SIZE, refusal::HEADER, refusal::OFFSETS];
+    let instruction = [refusal::OPERATION, refusal::REGISTER, refusal::UNUSED, refusal::SKIP];
+    let others = [
         refusal::TABLE_SIZE,
         refusal::AREA_SIZE,
         refusal::AREA,
@@ -151,9 +163,13 @@ fn names_are_the_documents_numbers() {
         refusal::NO_ORDER,
         refusal::NOT_CARRIED,
     ];
-    assert!(refusals.into_iter().eq(0..=13));
-    assert_eq!(refusal::REASON, 15);
-    assert_eq!(refusal::FRESH, 20);
+    assert_eq!(DONE.number, 0);
+    assert_eq!(numbers(&image), [1, 2, 3]);
+    assert_eq!(numbers(&instruction), [41, 42, 43, 44]);
+    assert_eq!(numbers(&others), [5, 6, 7, 8, 9, 10, 11, 12, 13]);
+    assert_eq!(numbers(&[refusal::REASON]), [15]);
+    assert_eq!(numbers(&image.map(Refusal::of_fresh)), [21, 22, 23]);
+    assert_eq!(numbers(&instruction.map(Refusal::of_fresh)), [61, 62, 63, 64]);
     assert_eq!([WAITING, GATHERED, REJECTED, FAULTED, COMMITTED, CARRIED], [0, 1, 2, 3, 4, 5]);
     assert_eq!([WAW, RAW, RAW_WITH_WAR], [1, 2, 3]);
 }
@@ -201,28 +217,28 @@ fn row_3_offsets() {
     assert_image_refused(&image(0, &[vec![end(); 33]]), refusal::OFFSETS);
 }
 
+/// "Return program and instruction too": here program 1 and instruction 1.
 #[test]
-fn row_4_instructions() {
-    let bad: [Instruction; 16] = [
-        [9, 0, 0, 0],
-        [255, 0, 0, 0],
-        [0, 1, 0, 0],
-        [0, 0, 0, 1],
-        [1, 8, 0, 0],
-        [2, 8, 0, 0],
-        [2, 0, 8, 0],
-        [2, 0, 0, 1],
-        [3, 0, 8, 0],
-        [3, 0, 0, 1],
-        [4, 0, 0, 8],
-        [5, 0, 8, 0],
-        [6, 0, 0, 1],
-        [7, 8, 0, 0],
-        [8, 0, 1, 0],
-        [8, 0, 0, 1],
-    ];
-    for instruction in bad {
-        assert_image_refused(&image(0, &[vec![], vec![end(), instruction]]), refusal::INSTRUCTION);
+fn rows_41_to_44_instructions() {
+    for way in WAYS {
+        for instruction in bad::instructions(way, 0) {
+            assert_image_refused(&image(0, &[vec![], vec![end(), instruction]]), way.at(1, 1));
+        }
+    }
+}
+
+/// At the first, a middle and the last instruction of the first, a middle and the last program, and
+/// so 61 to 64 where the image is the fresh one.
+#[test]
+fn rows_41_to_44_and_61_to_64_at_every_place() {
+    let good = good_programs();
+    for place in places(&good) {
+        for way in WAYS {
+            for instruction in bad::instructions(way, following(&good, place)) {
+                let bad = image(2, &replaced(&good, place, instruction));
+                assert_image_refused(&bad, way.at(place.0, place.1));
+            }
+        }
     }
 }
 
@@ -411,12 +427,20 @@ fn row_15_no_reason_at_all() {
 fn the_first_row_that_holds_decides() {
     assert_image_refused(&changed(|image| (image[2], image[4]) = (3, 0)), refusal::HEADER);
     assert_image_refused(&changed(|image| (image[4], image[10]) = (0, 9)), refusal::OFFSETS);
+    let bad = changed(|image| image[14] = 9);
+    let mut lent = Lent { image: bad.clone(), area: vec![9; 1], table: vec![], ..Lent::opened() };
+    assert_eq!(lent.gather(9), refusal::OPERATION.at(0, 1));
+    assert_eq!(program_refusal(&bad, 9), refusal::OPERATION.at(0, 1));
     let mut lent = Lent { area: vec![9; 1], table: vec![], ..Lent::opened() };
     assert_eq!(lent.gather(9), refusal::TABLE_SIZE);
     let mut lent = Lent { list: vec![], ..Lent::in_states([COMMITTED, WAITING]) };
     assert_eq!(lent.order(), refusal::STATE);
-    let mut lent = Lent { fresh: vec![], ..Lent::in_states([COMMITTED, WAITING]) };
+    let mut lent = Lent { fresh: bad.clone(), ..Lent::in_states([COMMITTED, WAITING]) };
     assert_eq!(lent.next_image(), refusal::STATE);
+    let mut lent = Lent { fresh: bad, out: vec![], ..Lent::in_states([COMMITTED, CARRIED]) };
+    assert_eq!(lent.next_image(), refusal::OPERATION.of_fresh().at(0, 1));
+    lent.image[14] = 10;
+    assert_eq!(lent.next_image(), refusal::OPERATION.at(0, 1), "the image is looked at before the fresh one");
     let mut lent = Lent::in_states([COMMITTED, WAITING]);
     assert_eq!(lent.why(2), refusal::NUMBER);
     lent.area[0] = 3;

@@ -2,20 +2,21 @@
 
 use material::assembler::{self, add, end, load, reject, set, skipequal, skipless, store, sub};
 use material::assembler::{Instruction, R0, R1, R2, R7};
+use material::bad::{self, following, good_programs, places, replaced, TYPED_WAYS, WAYS};
 use material::bench_sheet;
 use material::lessons::lessons;
 use material::random::{self, Random, Shape};
 use material::sheets;
 use plain::image::{INSTRUCTIONS, LONGEST, PROGRAMS};
-use plain::machine::{self, NAMES};
+use plain::machine::{first_flaw, NAMES};
 use plain::refusal::{self, DONE};
-use plain::{image_of, sheet_of, Text};
+use plain::{image_of, sheet_of, Refusal, Text};
 
 /// What an output holds before a call.
 const UNTOUCHED: u8 = 0xEE;
 
 /// A refusal, and the number of the line that is not allowed.
-type Refused = (u32, u32);
+type Refused = (Refusal, u32);
 
 /// What a call writes into an output of so many bytes, or its refusal. "A refusal touches nothing;
 /// beyond the length nothing is touched."
@@ -44,7 +45,7 @@ fn sheet(image: &[u8]) -> Result<Vec<u8>, Refused> {
 }
 
 /// A refusal other than 51.
-fn refused(refusal: u32) -> Result<Vec<u8>, Refused> {
+fn refused(refusal: Refusal) -> Result<Vec<u8>, Refused> {
     Err((refusal, 0))
 }
 
@@ -78,7 +79,7 @@ fn programs(count: usize, program: Vec<Instruction>) -> Vec<Vec<Instruction>> {
 
 #[test]
 fn names_are_the_documents_numbers() {
-    assert_eq!(refusal::LINE, 51);
+    assert_eq!(refusal::LINE.number, 51);
     assert_eq!(NAMES, ["end", "set", "load", "store", "add", "sub", "skipless", "skipequal", "reject"]);
 }
 
@@ -384,7 +385,7 @@ fn a_number_is_decimal_digits_alone() {
     }
 }
 
-// 2, 3, 4 and 10, each looked for over the whole sheet before the next.
+// 2, 3, 42 to 44 and 10, each looked for over the whole sheet before the next.
 
 #[test]
 fn over_64_programs_are_refused() {
@@ -416,26 +417,49 @@ fn a_program_over_32_instructions_is_refused() {
 }
 
 /// Document 01's rules of a good instruction, each with a line that only just keeps it and one that
-/// only just breaks it. The line is the second of three instructions.
+/// only just breaks it. The line is the second of three instructions of the first of two programs.
 #[test]
 fn a_bad_instruction_is_refused() {
     #[rustfmt::skip]
     let lines = [
-        ("end 0 0 0", "end 1 0 0"), ("end 0 0 0", "end 0 1 0"), ("end 0 0 0", "end 0 0 1"),
-        ("set 7 255 255", "set 8 255 255"), ("set 0 0 0", "set 255 0 0"),
-        ("load 7 7 0", "load 8 7 0"), ("load 7 7 0", "load 7 8 0"), ("load 7 7 0", "load 7 7 1"),
-        ("store 7 7 0", "store 8 7 0"), ("store 7 7 0", "store 7 8 0"), ("store 7 7 0", "store 7 7 1"),
-        ("add 7 7 7", "add 8 7 7"), ("add 7 7 7", "add 7 8 7"), ("add 7 7 7", "add 7 7 8"),
-        ("sub 7 7 7", "sub 8 7 7"), ("sub 7 7 7", "sub 7 8 7"), ("sub 7 7 7", "sub 7 7 8"),
-        ("skipless 7 7 1", "skipless 8 7 1"), ("skipless 7 7 1", "skipless 7 8 1"),
-        ("skipless 7 7 1", "skipless 7 7 2"), ("skipequal 7 7 1", "skipequal 7 7 2"),
-        ("skipequal 7 7 1", "skipequal 8 7 1"), ("skipequal 7 7 1", "skipequal 7 8 1"),
-        ("reject 255 0 0", "reject 255 1 0"), ("reject 255 0 0", "reject 255 0 1"),
+        ("end 0 0 0", refusal::UNUSED, ["end 1 0 0", "end 0 1 0", "end 0 0 1"]),
+        ("set 7 255 255", refusal::REGISTER, ["set 8 255 255", "set 8 0 0", "set 255 0 0"]),
+        ("load 7 7 0", refusal::REGISTER, ["load 8 7 0", "load 7 8 0", "load 8 8 1"]),
+        ("load 7 7 0", refusal::UNUSED, ["load 7 7 1", "load 0 0 7", "load 7 7 255"]),
+        ("store 7 7 0", refusal::REGISTER, ["store 8 7 0", "store 7 8 0", "store 8 8 1"]),
+        ("store 7 7 0", refusal::UNUSED, ["store 7 7 1", "store 0 0 7", "store 7 7 255"]),
+        ("add 7 7 7", refusal::REGISTER, ["add 8 7 7", "add 7 8 7", "add 7 7 8"]),
+        ("sub 7 7 7", refusal::REGISTER, ["sub 8 7 7", "sub 7 8 7", "sub 7 7 8"]),
+        ("skipless 7 7 1", refusal::REGISTER, ["skipless 8 7 1", "skipless 7 8 1", "skipless 8 7 2"]),
+        ("skipless 7 7 1", refusal::SKIP, ["skipless 7 7 2", "skipless 0 0 2", "skipless 7 7 255"]),
+        ("skipequal 7 7 1", refusal::REGISTER, ["skipequal 8 7 1", "skipequal 7 8 1", "skipequal 8 8 255"]),
+        ("skipequal 7 7 1", refusal::SKIP, ["skipequal 7 7 2", "skipequal 0 0 2", "skipequal 7 7 255"]),
+        ("reject 255 0 0", refusal::UNUSED, ["reject 255 1 0", "reject 255 0 1", "reject 0 8 8"]),
     ];
     let around = |line| format!("rule 1\nprogram\nend 0 0 0\n{line}\nend 0 0 0\nprogram\nend 0 0 0\n");
-    for (good, bad) in lines {
+    for (good, way, bad) in lines {
         assert!(image(around(good)).is_ok(), "{good}");
-        assert_eq!(image(around(bad)), refused(refusal::INSTRUCTION), "{bad}");
+        for line in bad {
+            assert_eq!(image(around(line)), refused(way.at(0, 1)), "{line}");
+        }
+    }
+}
+
+/// At every place that a bad instruction can have, from the sheet as from the image.
+#[test]
+fn a_bad_instruction_is_named_by_its_place() {
+    let good = good_programs();
+    for place in places(&good) {
+        for way in WAYS {
+            for instruction in bad::instructions(way, following(&good, place)) {
+                let bad = replaced(&good, place, instruction);
+                let expected = refused(way.at(place.0, place.1));
+                assert_eq!(sheet(&assembler::image(0, &bad)), expected, "{instruction:?}");
+                if TYPED_WAYS.contains(&way) {
+                    assert_eq!(image(assembler::sheet(0, &bad)), expected, "{instruction:?}");
+                }
+            }
+        }
     }
 }
 
@@ -444,7 +468,7 @@ fn a_bad_instruction_is_refused() {
 fn a_skip_ends_in_its_own_program() {
     let skips = |c| format!("rule 1\nprogram\nend 0 0 0\nskipless 0 0 {c}\nprogram\nend 0 0 0\nend 0 0 0\n");
     assert!(image(skips(0)).is_ok());
-    assert_eq!(image(skips(1)), refused(refusal::INSTRUCTION));
+    assert_eq!(image(skips(1)), refused(refusal::SKIP.at(0, 1)));
 }
 
 #[test]
@@ -475,7 +499,7 @@ fn the_first_check_that_fails_decides() {
     programs.pop();
     assert_eq!(no_room(&assembler::sheet(1, &programs)), refused(refusal::OFFSETS));
     programs[1].pop();
-    assert_eq!(no_room(&assembler::sheet(1, &programs)), refused(refusal::INSTRUCTION));
+    assert_eq!(no_room(&assembler::sheet(1, &programs)), refused(refusal::UNUSED));
     programs[0].pop();
     assert_eq!(no_room(&assembler::sheet(1, &programs)), refused(refusal::TOO_SHORT));
     assert_eq!(image(assembler::sheet(1, &programs)), Ok(assembler::image(1, &programs)));
@@ -493,17 +517,17 @@ fn each_check_looks_at_the_whole_sheet_before_the_next() {
     assert_eq!(image([&too_many[..], b"set 8 0 256\n"].concat()), not_allowed(line));
 }
 
-// From an image: 1 to 4, then 10.
+// From an image: 1 to 3, 41 to 44, then 10.
 
 #[test]
 fn a_bad_image_is_refused_as_by_every_call() {
-    let good = assembler::image(1, &[vec![set(R1, 1), store(R0, R1)], vec![load(R1, R0)]]);
+    let good = assembler::image(1, &[vec![set(R1, 1), store(R0, R1)], vec![set(R1, 1)]]);
     let changed = |place: usize, byte: u8| {
         let mut image = good.clone();
         image[place] = byte;
         image
     };
-    assert_eq!(sheet(&good).map(|sheet| sheet.len()), Ok(7 + 8 + 10 + 12 + 8 + 11));
+    assert_eq!(sheet(&good).map(|sheet| sheet.len()), Ok(7 + 8 + 10 + 12 + 8 + 10));
     assert_eq!(sheet(&[]), refused(refusal::IMAGE_SIZE));
     assert_eq!(sheet(&good[..5]), refused(refusal::IMAGE_SIZE));
     assert_eq!(sheet(&[0; LONGEST + 1]), refused(refusal::IMAGE_SIZE));
@@ -514,9 +538,10 @@ fn a_bad_image_is_refused_as_by_every_call() {
     for (place, byte) in [(4, 14), (6, 8), (6, 19), (8, 26)] {
         assert_eq!(sheet(&changed(place, byte)), refused(refusal::OFFSETS));
     }
-    for (place, byte) in [(10, 9), (10, 255), (11, 8), (17, 1)] {
-        assert_eq!(sheet(&changed(place, byte)), refused(refusal::INSTRUCTION));
-    }
+    assert_eq!(sheet(&changed(10, 9)), refused(refusal::OPERATION.at(0, 0)));
+    assert_eq!(sheet(&changed(15, 8)), refused(refusal::REGISTER.at(0, 1)));
+    assert_eq!(sheet(&changed(17, 1)), refused(refusal::UNUSED.at(0, 1)));
+    assert_eq!(sheet(&changed(18, 6)), refused(refusal::SKIP.at(1, 0)));
 }
 
 #[test]
@@ -536,7 +561,7 @@ fn an_output_shorter_than_the_sheet_is_refused() {
 fn a_bad_image_is_refused_before_a_short_output() {
     assert_eq!(written(sheet_of, &[0; 5], 0), refused(refusal::IMAGE_SIZE));
     let bad = assembler::image(1, &[vec![[9, 0, 0, 0]]]);
-    assert_eq!(written(sheet_of, &bad, 0), refused(refusal::INSTRUCTION));
+    assert_eq!(written(sheet_of, &bad, 0), refused(refusal::OPERATION));
 }
 
 // The longest sheet.
@@ -557,7 +582,7 @@ fn longest_line(following: usize) -> usize {
             for &b in &bytes {
                 for &c in &bytes {
                     program[0] = [operation, a, b, c];
-                    if machine::is_good(program.as_flattened()) {
+                    if first_flaw(program.as_flattened()).is_none() {
                         longest = longest.max(line_bytes(program[0]));
                     }
                 }

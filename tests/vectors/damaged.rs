@@ -2,18 +2,20 @@
 //! good inputs with bytes changed, cut off or added.
 
 use crate::good;
-use material::assembler::{
-    add, end, image, input, load, set, skipless, store, two_bytes, Instruction, R0, R1,
-};
+use material::assembler::{add, end, image, input, load, set, skipless, store, two_bytes, R0, R1};
+use material::bad::{self, following, good_programs, places, replaced, Place, WAYS};
+use material::case::Program;
 use material::random::Random;
 use plain::image::{INSTRUCTIONS, LONGEST, PROGRAMS};
+use plain::Refusal;
 
 const TABLE: [u32; 3] = [1, 2, 3];
 const CHANGED: usize = 60;
 const CUT: usize = 20;
 
 pub fn inputs() -> Vec<Vec<u8>> {
-    let earned = [prefixes(), sizes(), headers(), offsets(), bad_instructions(), first_row_decides()];
+    let instructions = [bad_instructions(), bad_places(), two_bad_instructions()].concat();
+    let earned = [prefixes(), sizes(), headers(), offsets(), instructions, first_row_decides()];
     [earned.concat(), changed(), cut()].concat()
 }
 
@@ -95,29 +97,48 @@ fn offsets() -> Vec<Vec<u8>> {
     behind_table(images)
 }
 
-/// "Some instruction is bad": 4. Each stands last in the second of three programs.
+/// "41 unknown operation, 42 register over 7, 43 an unused byte not 0, 44 skip past the end", in every
+/// way to earn them, and in several ways at once. Each stands last in the second of three programs.
 fn bad_instructions() -> Vec<Vec<u8>> {
-    #[rustfmt::skip]
-    let bad: [Instruction; 36] = [
-        // Operations 9 to 255.
-        [9, 0, 0, 0], [10, 0, 0, 0], [128, 0, 0, 0], [255, 0, 0, 0],
-        // Bytes that are to be 0.
-        [0, 1, 0, 0], [0, 0, 1, 0], [0, 0, 0, 1], [0, 0, 0, 255],
-        [2, 0, 0, 1], [2, 7, 7, 255], [3, 0, 0, 1], [3, 7, 7, 255],
-        [8, 0, 1, 0], [8, 0, 0, 1], [8, 255, 255, 255],
-        // Registers over 7.
-        [1, 8, 0, 0], [1, 255, 0, 0], [2, 8, 0, 0], [2, 0, 8, 0], [3, 8, 0, 0], [3, 0, 8, 0], [3, 0, 255, 0],
-        [4, 8, 0, 0], [4, 0, 8, 0], [4, 0, 0, 8], [5, 8, 0, 0], [5, 0, 8, 0], [5, 0, 0, 8],
-        [6, 8, 0, 0], [6, 0, 8, 0], [7, 8, 0, 0], [7, 0, 8, 0],
-        // Skips past the end.
-        [6, 0, 0, 1], [7, 0, 1, 1], [6, 0, 1, 255], [7, 0, 0, 255],
-    ];
-    let last = |instruction: Instruction| image(1, &[vec![end()], vec![end(), instruction], vec![end()]]);
-    let mut images: Vec<Vec<u8>> = bad.iter().map(|&instruction| last(instruction)).collect();
-    // In the first and in the last program, and a skip that would land in the next program.
+    let bad = WAYS.iter().flat_map(|&way| bad::instructions(way, 0));
+    let last = |instruction| image(1, &[vec![end()], vec![end(), instruction], vec![end()]]);
+    let mut images: Vec<Vec<u8>> = bad.map(last).collect();
+    // In a first program of one instruction, behind a full program, and a skip that would land in the
+    // next program.
     images.push(image(1, &[vec![[9, 0, 0, 0]], vec![end()]]));
     images.push(image(1, &[vec![end(); INSTRUCTIONS], vec![add(R0, R0, R0), [4, 0, 0, 8]]]));
     images.push(image(1, &[vec![set(R1, 1), skipless(R0, R1, 1)], vec![end(), end()]]));
+    behind_table(images)
+}
+
+/// The same programs with an instruction at a place that is bad in this way. Which of those that are, the
+/// place decides.
+fn with_bad(programs: &[Program], place: Place, way: Refusal) -> Vec<Program> {
+    let bad = bad::instructions(way, following(programs, place));
+    let (program, instruction) = place;
+    replaced(programs, place, bad[(program + instruction) % bad.len()])
+}
+
+/// Bad in each way at the first, a middle and the last instruction of the first, a middle and the last
+/// program.
+fn bad_places() -> Vec<Vec<u8>> {
+    let good = good_programs();
+    let bad = |place| WAYS.map(|way| image(2, &with_bad(&good, place, way)));
+    behind_table(places(&good).into_iter().flat_map(bad).collect())
+}
+
+/// "The first in image order": two that are bad in different ways, in either order, in one program and in
+/// two.
+fn two_bad_instructions() -> Vec<Vec<u8>> {
+    let good = good_programs();
+    let mut images = Vec::new();
+    for (first, second) in [((0, 0), (0, 2)), ((2, 4), (4, 0))] {
+        for way in WAYS {
+            for other in WAYS.into_iter().filter(|&other| other != way) {
+                images.push(image(0, &with_bad(&with_bad(&good, first, way), second, other)));
+            }
+        }
+    }
     behind_table(images)
 }
 

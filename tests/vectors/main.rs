@@ -14,10 +14,11 @@ use material::assembler::input;
 use material::bench_sheet;
 use material::case::Case;
 use material::lessons::lessons;
+use plain::bad::{said_of_input, said_of_sheet};
 use plain::{batch, explain};
 use std::fs;
 use std::io;
-use std::path::Path;
+use std::path::{Path, PathBuf};
 
 fn main() -> io::Result<()> {
     let folder = std::env::args().nth(1).expect("the folder to write in");
@@ -74,7 +75,7 @@ fn bench_inputs() -> Vec<Vec<u8>> {
 }
 
 /// Each case of the bench sheet and each lesson's batch as a file to run, and beside it its image as a
-/// sheet and what the programs print.
+/// sheet, what the programs print, and what they say on standard error of a bad instruction.
 fn write_examples(folder: &Path) -> io::Result<()> {
     fs::create_dir_all(folder)?;
     for case in bench_sheet::cases() {
@@ -91,5 +92,16 @@ fn write_example(folder: &Path, name: &str, case: &Case) -> io::Result<()> {
     fs::write(folder.join(format!("{name}.bin")), &input)?;
     fs::write(folder.join(format!("{name}.sheet")), &case.sheet)?;
     fs::write(folder.join(format!("{name}.txt")), batch::printed(&input))?;
-    fs::write(folder.join(format!("{name}.why.txt")), explain::printed(&input))
+    fs::write(folder.join(format!("{name}.why.txt")), explain::printed(&input))?;
+    write_unless_empty(folder.join(format!("{name}.error.txt")), said_of_input(&input))?;
+    write_unless_empty(folder.join(format!("{name}.sheet.error.txt")), said_of_sheet(&case.sheet))
+}
+
+/// Where nothing is said, there is no file.
+fn write_unless_empty(path: PathBuf, text: String) -> io::Result<()> {
+    if text.is_empty() {
+        Ok(())
+    } else {
+        fs::write(path, text)
+    }
 }
