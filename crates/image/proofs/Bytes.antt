@@ -2,13 +2,13 @@
 -- number where each byte's are, and a skip that stays in the program is below 32, so that one number and one skip decide. Assumes nothing.
 use Prim.Native.Nat.{ℕ, _+_, _-_, _*_, _/_, _%_, _^_, _≤_, _<_, zero, suc}
 use mathlib.Core.Path.{_≡_, refl, sym, ap, ap₂, _∙_}
-use mathlib.Core.Bool.{Bool, true, false, cond, _&&_, and-true}
+use mathlib.Core.Bool.{Bool, true, false, not, cond, _&&_, and-true}
 use native.Mathlib.Nat.{zero-mul, zero-mod, mod-eq-of-lt, div-eq-of-lt}
 use native.Mathlib.Omega.{arith}
 use lib.Bits.{bitAnd, and-block, and-high, and-mask, and-zero-r}
 use lib.Dec.{eqb, ltb, leb}
 use lib.ListN.{List·getD-eq-default}
-use borrow.Author.Tests.{ltb-true, leb-true, eqb-true, lt-ltb, le-ltb, le-leb, eq-eqb, ne-eqb}
+use borrow.Author.Tests.{ltb-true, ltb-false, leb-true, eqb-true, lt-ltb, le-ltb, le-leb, eq-eqb, ne-eqb}
 use Rattle.base.proofs.Bools.{and-both, both-and, and-false, same-test}
 use Rattle.image.specs.declared.Refusal.{Refusal}
 use Rattle.image.specs.declared.instruction.Row.{Row}
@@ -17,7 +17,7 @@ use Rattle.image.specs.Refusals as refusal
 use Rattle.image.specs.Refusals.{refusingAt, check, passes, placed}
 use Rattle.image.specs.Instruction.{Kind, register, unused, skip, free, Kinds, kinds, rows, known, kindsOf}
 use Rattle.image.specs.Instruction.{registerGood, unusedGood, skipGood, each, firstBad, faultOf}
-use Rattle.image.specs.Bits.{zeros, packed, rowOf, ByKind}
+use Rattle.image.specs.Bits.{zeros, packed, bitsOf, rowOf, ByKind}
 use Rattle.image.proofs.Refusing.{fails, goes-on, number-of}
 
 -- ---- the kinds, as the code has them
@@ -87,7 +87,7 @@ module _ (op : ℕ) {row : Row} (is : row ≡ rowOf op) where
   unfolding rowOf
   row-b = ap (λ (r : Row). r .b) is
 
-  pub row-c : row .c ≡ zeros (kindsOf op .c)
+  row-c : row .c ≡ zeros (kindsOf op .c)
   unfolding rowOf
   row-c = ap (λ (r : Row). r .c) is
 
@@ -102,9 +102,84 @@ module _ (op : ℕ) {row : Row} (is : row ≡ rowOf op) where
   first-tested c test p q e = e ∙ rw (p .of-kind _ row-a, q .of-kind _ row-b)
 
 -- "Operations 9 to 255 are bad": they have no row
-pub no-row : (op : ℕ) → 9 ≤ op → record { known = false; a = 0; b = 0; c = 0 } ≡ rowOf op
-unfolding rowOf known kindsOf rows zeros
-no-row op h = rw (le-ltb op 9 h, List·getD-eq-default rows (kinds free free free) h)
+pub no-bits : (op : ℕ) → 9 ≤ op → 255 ≡ bitsOf op
+unfolding bitsOf known rows
+no-bits op h = rw (le-ltb op 9 h)
+
+zeros-byte : (k : Kind) → zeros k < 256
+unfolding zeros
+zeros-byte register = omega arith
+zeros-byte unused = omega arith
+zeros-byte skip = omega arith
+zeros-byte free = omega arith
+
+-- the bits of an operation, by what is known of it
+module _ (op : ℕ) {bits : ℕ} (is : bits ≡ bitsOf op) where
+  pub bits-known : known op ≡ true → bits ≡ packed 240 (zeros (kindsOf op .a)) (zeros (kindsOf op .b)) (zeros (kindsOf op .c))
+  unfolding bitsOf
+  bits-known e = is ∙ rw e
+
+  bits-unknown : known op ≡ false → bits ≡ 255
+  unfolding bitsOf
+  bits-unknown e = is ∙ rw e
+
+  pub told-unknown : bits ≡ 255 → known op ≡ false
+  told-unknown e = go (known op) refl
+    where
+      go : (b : Bool) → known op ≡ b → b ≡ false
+      go true t = absurd (omega (arith, bits-known t, e))
+      go false t = refl
+
+  pub told-known : (bits ≡ 255 → ⊥) → known op ≡ true
+  told-known h = go (known op) refl
+    where
+      go : (b : Bool) → known op ≡ b → b ≡ true
+      go true t = refl
+      go false t = absurd (h (bits-unknown t))
+
+-- a byte of four that are one number
+byte-1 : (w x y z : ℕ) → w < 256 → x < 256 → y < 256 → packed w x y z / 256 % 256 ≡ x
+byte-1 w x y z hw hx hy = omega arith
+
+byte-2 : (w x y z : ℕ) → w < 256 → x < 256 → y < 256 → packed w x y z / 65536 % 256 ≡ y
+byte-2 w x y z hw hx hy = omega arith
+
+byte-3 : (w x y z : ℕ) → w < 256 → x < 256 → y < 256 → z < 256 → packed w x y z / 16777216 % 256 ≡ z
+byte-3 w x y z hw hx hy hz = omega arith
+
+-- the row that the bits are
+free-kinds : (op : ℕ) → known op ≡ false → kindsOf op ≡ kinds free free free
+unfolding known kindsOf rows
+free-kinds op e = List·getD-eq-default rows (kinds free free free) (ltb-false op 9 e)
+
+pub bits-row : (op : ℕ) {bits : ℕ} → bits ≡ bitsOf op
+    → record { known = not (eqb bits 255); a = bits / 256 % 256; b = bits / 65536 % 256; c = bits / 16777216 % 256 } ≡ rowOf op
+unfolding rowOf zeros
+bits-row op {bits} is = go (known op) refl
+  where
+    go : (b : Bool) → known op ≡ b
+        → record { known = not (eqb bits 255); a = bits / 256 % 256; b = bits / 65536 % 256; c = bits / 16777216 % 256 } ≡ rowOf op
+    go true e =
+        let is-packed = bits-known op is e in
+        let ha = zeros-byte (kindsOf op .a) in
+        let hb = zeros-byte (kindsOf op .b) in
+        let hc = zeros-byte (kindsOf op .c) in
+        let other : eqb bits 255 ≡ false = ne-eqb bits 255 (λ z. omega (arith, is-packed, z)) in
+        λ j. record {
+          known = (ap not other ∙ sym e) j;
+          a = (ap (λ (n : ℕ). n / 256 % 256) is-packed ∙ byte-1 240 _ _ _ (omega arith) ha hb) j;
+          b = (ap (λ (n : ℕ). n / 65536 % 256) is-packed ∙ byte-2 240 _ _ _ (omega arith) ha hb) j;
+          c = (ap (λ (n : ℕ). n / 16777216 % 256) is-packed ∙ byte-3 240 _ _ _ (omega arith) ha hb hc) j;
+        }
+    go false e =
+        let is-255 = bits-unknown op is e in
+        let k = free-kinds op e in
+        λ j. record {
+          known = (ap (λ (n : ℕ). not (eqb n 255)) is-255 ∙ sym e) j;
+          a = (ap (λ (n : ℕ). n / 256 % 256) is-255 ∙ sym (ap (λ (k : Kinds). zeros (k .a)) k)) j;
+          b = (ap (λ (n : ℕ). n / 65536 % 256) is-255 ∙ sym (ap (λ (k : Kinds). zeros (k .b)) k)) j;
+          c = (ap (λ (n : ℕ). n / 16777216 % 256) is-255 ∙ sym (ap (λ (k : Kinds). zeros (k .c)) k)) j;
+        }
 
 -- "6 skipless, 7 skipequal": c alone is a skip's length
 skip-last : (i m a b c op : ℕ) → each (skipGood i m) (kindsOf op) a b c ≡ skipGood i m (kindsOf op .c) c
@@ -121,13 +196,6 @@ skip-last i m a b c (suc (suc (suc (suc (suc (suc (suc (suc zero)))))))) = refl
 skip-last i m a b c (suc (suc (suc (suc (suc (suc (suc (suc (suc o))))))))) = refl
 
 -- ---- the bits
-
-zeros-byte : (k : Kind) → zeros k < 256
-unfolding zeros
-zeros-byte register = omega arith
-zeros-byte unused = omega arith
-zeros-byte skip = omega arith
-zeros-byte free = omega arith
 
 zero-where : (n : ℕ) {t : Bool} → (n ≡ 0 → t ≡ true) → (t ≡ true → n ≡ 0) → eqb n 0 ≡ t
 zero-where n f g = same-test (λ e. f (eqb-true n 0 e)) (λ e. eq-eqb n 0 (g e))
@@ -211,20 +279,19 @@ pub unknown-bad : (op a b c i m : ℕ) → known op ≡ false → passes (faultO
 unknown-bad op a b c i m e = good-each op a b c i m ∙ rw e
 
 -- one number of bits and one skip decide
-pub bits-and-skip : (op a b c i m : ℕ) {row : Row} → row ≡ rowOf op → row .known ≡ true → a < 256 → b < 256 → c < 256 → m ≤ maxInstructions
-    → passes (faultOf op a b c i m) ≡ eqb (bitAnd (packed op a b c) (packed 240 (row .a) (row .b) (row .c))) 0 && skipGood i m (kindsOf op .c) c
+pub bits-and-skip : (op a b c i m : ℕ) {bits : ℕ} → bits ≡ bitsOf op → (bits ≡ 255 → ⊥) → a < 256 → b < 256 → c < 256 → m ≤ maxInstructions
+    → passes (faultOf op a b c i m) ≡ eqb (bitAnd (packed op a b c) bits) 0 && skipGood i m (kindsOf op .c) c
 unfolding known rows
-bits-and-skip op a b c i m is e ha hb hc l =
+bits-and-skip op a b c i m is other ha hb hc l =
     let k = kindsOf op in
-    let ho : op < 9 = ltb-true op 9 (sym (row-known op is) ∙ e) in
+    let e = told-known op is other in
+    let ho : op < 9 = ltb-true op 9 e in
     let bits : Kind → ℕ → Bool = λ l x. eqb (bitAnd x (zeros l)) 0 in
     let first : bitAnd op 240 ≡ 0 = low-bits op 4 4 (omega arith) in
     good-each op a b c i m
     ∙ rw (
-      sym (row-known op is) ∙ e,
-      row-a op is,
-      row-b op is,
-      row-c op is,
+      e,
+      bits-known op is e,
       bits-good i m a (k .a) ha l,
       bits-good i m b (k .b) hb l,
       bits-good i m c (k .c) hc l,
@@ -233,6 +300,11 @@ bits-and-skip op a b c i m is e ha hb hc l =
       packed-zero (bitAnd a (zeros (k .a))) (bitAnd b (zeros (k .b))) (bitAnd c (zeros (k .c))),
     )
     (sym (each-both bits (skipGood i m) k a b c) ∙ ap (λ (t : Bool). each bits k a b c && t) (skip-last i m a b c op))
+
+-- the kind of c
+pub bits-c : (op : ℕ) {bits : ℕ} → bits ≡ bitsOf op → bits / 16777216 % 256 ≡ zeros (kindsOf op .c)
+unfolding rowOf
+bits-c op is = ap (λ (r : Row). r .c) (bits-row op is)
 
 -- ---- where it stands
 

@@ -15,14 +15,14 @@ use Rattle.base.proofs.Parts.{words-length}
 use Rattle.image.specs.Limits.{maxPrograms, instructionBytes, maxProgramBytes, headBytes}
 use Rattle.image.specs.declared.Refusal.{Refusal}
 use Rattle.image.specs.Refusals as refusal
-use Rattle.image.specs.Refusals.{none, passes, ofFresh, saysWhere, WellPlaced, placed}
-use Rattle.image.specs.Instruction.{instructionsOf, faultAt, placeGood, programGood}
+use Rattle.image.specs.Refusals.{none, passes, ofFresh, saysWhere, WellPlaced}
+use Rattle.image.specs.Instruction.{instructionsOf, programFault, placeGood, programGood}
 use Rattle.image.specs.Image.{byteAt, countOf, ruleByte, headerOf, offsetOf, bytesOf, partOf, Lies, sizeGood, headerGood}
 use Rattle.image.specs.Image.{holdsOffsets, firstGood, rises, whole, short, extentGood, extentsGood, lastGood, offsetsGood, codeGood, codeRefusal}
 use Rattle.image.specs.Image.{refusalOf, freshRefusalOf, programRefusalOf, programOf, startOf}
 use Rattle.image.proofs.Refusing.{check-either, goes-on, none-fails, none-after, unless-refused, unless-done}
 use Rattle.image.proofs.Places.{plain-well}
-use Rattle.image.proofs.Faults.{program-found, code-passes, code-none, code-found, code-number, code-well}
+use Rattle.image.proofs.Faults.{code-passes, code-none, code-found, code-number, code-well}
 
 -- ---- a program that lies in the image has as many bytes as its offsets say, and so at most 32 instructions of 4
 
@@ -82,13 +82,14 @@ pub no-code-refusal : (image : List ℕ) (p : ℕ) → p ≡ countOf image → e
 unfolding codeRefusal
 no-code-refusal image p e h = code-none (partOf image) (countOf image) (rw e at h)
 
-pub code-refused : (image : List ℕ) (p i : ℕ) → p < countOf image → every p (λ q. programGood (partOf image q)) ≡ true → i < instructionsOf (partOf image p)
-    → every i (λ k. placeGood (partOf image p) k) ≡ true → placeGood (partOf image p) i ≡ false
-    → placed p i (faultAt (partOf image p) i) ≡ codeRefusal image
-unfolding codeRefusal programGood
-code-refused image p i l before k good bad =
-    program-found p (partOf image p) i k good bad
-    ∙ code-found (partOf image) (countOf image) p l before (every-false (instructionsOf (partOf image p)) (λ k. placeGood (partOf image p) k) i k bad)
+pub code-refused : (image : List ℕ) (p : ℕ) → p < countOf image → every p (λ q. programGood (partOf image q)) ≡ true → programGood (partOf image p) ≡ false
+    → programFault p (partOf image p) ≡ codeRefusal image
+unfolding codeRefusal
+code-refused image p l before bad = code-found (partOf image) (countOf image) p l before bad
+
+pub program-bad : (part : List ℕ) (i : ℕ) → i < instructionsOf part → placeGood part i ≡ false → programGood part ≡ false
+unfolding programGood
+program-bad part i l bad = every-false (instructionsOf part) (λ k. placeGood part k) i l bad
 
 pub program-good : (part : List ℕ) (i : ℕ) → i ≡ instructionsOf part → every i (λ k. placeGood part k) ≡ true → programGood part ≡ true
 unfolding programGood

@@ -2,7 +2,7 @@
 -- `instruction_good` compares it with the table. Assumes nothing.
 use Prim.Native.Nat.{ℕ, _+_, _*_}
 use mathlib.Core.Path.{_≡_}
-use mathlib.Core.Bool.{Bool}
+use mathlib.Core.Bool.{Bool, cond}
 use Rattle.image.specs.declared.instruction.Row.{Row}
 use Rattle.image.specs.Instruction.{Kind, register, unused, skip, free, known, kindsOf}
 
@@ -16,6 +16,10 @@ zeros free = 0
 -- four bytes as one number
 abbrev pub packed : (op a b c : ℕ) → ℕ
 packed op a b c = op + 256 * a + 65536 * b + 16777216 * c
+
+-- the bits that are 0 in a good instruction of an operation, whose own byte is below 16; 255 where there is no row
+unfoldable pub bitsOf : ℕ → ℕ
+bitsOf op = cond (known op) (packed 240 (zeros (kindsOf op .a)) (zeros (kindsOf op .b)) (zeros (kindsOf op .c))) 255
 
 -- the row of an operation, as the code has it
 unfoldable pub rowOf : ℕ → Row

@@ -1,12 +1,12 @@
 // Which instruction is good, and what is wrong with one that is not: document 01, "Instructions", and document 02, ask 2.
 ghost use mathlib.Core.Path.{_≡_};
-ghost use mathlib.Core.Bool.{true, cond, _&&_};
+ghost use mathlib.Core.Bool.{cond, _&&_};
 ghost use Prim.Native.Nat.{_≤_, _<_};
 ghost use lib.ListN.{length};
 ghost use Rattle.image.specs.Limits.{maxInstructions, maxProgramBytes};
 ghost use Rattle.image.specs.Refusals.{passes, placed};
 ghost use Rattle.image.specs.Instruction.{registerGood, unusedGood, skipGood, faultOf, wrongOf, instructionsOf, faultAt, wrongByte, placeGood};
-ghost use Rattle.image.specs.Bits.{packed, rowOf, ByKind};
+ghost use Rattle.image.specs.Bits.{packed, bitsOf, rowOf, ByKind};
 
 // The kinds of a byte, each by the bits that are 0 in a good one: a register is below 8, an unused byte is 0, a skip's length is below 32, since no
 // program is longer, and the last kind may be any byte.
@@ -18,8 +18,10 @@ const SKIP: u8 = 224;
 
 const FREE: u8 = 0;
 
-// The same of a known operation, which is below 16.
+// The same of a known operation, which is below 16, and the bits of one that is not known, which stand for no row.
 const OPERATION: u8 = 240;
+
+const UNKNOWN: u32 = 255;
 
 // Whether all three hold.
 pub fn all(x: bool, y: bool, z: bool) -> bool
@@ -33,6 +35,31 @@ pub fn all(x: bool, y: bool, z: bool) -> bool
     false
 }
 
+// Four bytes as one number.
+fn packed(op: u8, a: u8, b: u8, c: u8) -> u32
+    ensures { λ r. ⌜ r ≡ packed op a b c ⌝ }
+{
+    op as u32 + 256 * a as u32 + 65536 * b as u32 + 16777216 * c as u32
+}
+
+// The bits that are 0 in a good instruction, by its operation: the table, row by row. Operations 9 to 255 are bad.
+fn bits_of(op: u8) -> u32
+    ensures { λ r. ⌜ r ≡ bitsOf op ⌝ }
+{
+    match op {
+        0 => packed(OPERATION, UNUSED, UNUSED, UNUSED),
+        1 => packed(OPERATION, REGISTER, FREE, FREE),
+        2 => packed(OPERATION, REGISTER, REGISTER, UNUSED),
+        3 => packed(OPERATION, REGISTER, REGISTER, UNUSED),
+        4 => packed(OPERATION, REGISTER, REGISTER, REGISTER),
+        5 => packed(OPERATION, REGISTER, REGISTER, REGISTER),
+        6 => packed(OPERATION, REGISTER, REGISTER, SKIP),
+        7 => packed(OPERATION, REGISTER, REGISTER, SKIP),
+        8 => packed(OPERATION, FREE, UNUSED, UNUSED),
+        9..=255 => UNKNOWN,
+    }
+}
+
 // A row of the table, the kinds of a, b and c; or that there is none.
 struct Row {
     known: bool,
@@ -41,45 +68,16 @@ struct Row {
     c: u8,
 }
 
-fn kinds(a: u8, b: u8, c: u8) -> Row
-    ensures { λ r. ⌜ r ≡ record { known = true; a = a; b = b; c = c } ⌝ }
-{
-    Row {
-        known: true,
-        a,
-        b,
-        c,
-    }
-}
-
-// The table, row by row. Operations 9 to 255 are bad.
 fn row_of(op: u8) -> Row
     ensures { λ r. ⌜ r ≡ rowOf op ⌝ }
 {
-    match op {
-        0 => kinds(UNUSED, UNUSED, UNUSED),
-        1 => kinds(REGISTER, FREE, FREE),
-        2 => kinds(REGISTER, REGISTER, UNUSED),
-        3 => kinds(REGISTER, REGISTER, UNUSED),
-        4 => kinds(REGISTER, REGISTER, REGISTER),
-        5 => kinds(REGISTER, REGISTER, REGISTER),
-        6 => kinds(REGISTER, REGISTER, SKIP),
-        7 => kinds(REGISTER, REGISTER, SKIP),
-        8 => kinds(FREE, UNUSED, UNUSED),
-        9..=255 => Row {
-            known: false,
-            a: FREE,
-            b: FREE,
-            c: FREE,
-        },
+    let bits = bits_of(op);
+    Row {
+        known: bits != UNKNOWN,
+        a: (bits / 256 % 256) as u8,
+        b: (bits / 65536 % 256) as u8,
+        c: (bits / 16777216 % 256) as u8,
     }
-}
-
-// Four bytes as one number.
-fn packed(op: u8, a: u8, b: u8, c: u8) -> u32
-    ensures { λ r. ⌜ r ≡ packed op a b c ⌝ }
-{
-    op as u32 + 256 * a as u32 + 65536 * b as u32 + 16777216 * c as u32
 }
 
 // Whether a byte, if it names a register, names one that there is.
@@ -152,14 +150,14 @@ fn instruction_good(op: u8, a: u8, b: u8, c: u8, i: usize, m: usize) -> bool
     requires { ⌜ (i < m) × (m ≤ maxInstructions) ⌝ }
     ensures { λ r. ⌜ r ≡ passes (faultOf op a b c i m) ⌝ }
 {
-    let row = row_of(op);
-    if !row.known {
+    let bits = bits_of(op);
+    if bits == UNKNOWN {
         return false;
     }
-    if packed(op, a, b, c) & packed(OPERATION, row.a, row.b, row.c) != 0 {
+    if packed(op, a, b, c) & bits != 0 {
         return false;
     }
-    skip_good(i, m, row.c, c)
+    skip_good(i, m, (bits / 16777216 % 256) as u8, c)
 }
 
 // Whether instruction i of a program is good.

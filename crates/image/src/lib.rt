@@ -193,7 +193,7 @@ fn code_refusal(bytes: &[u8], n: usize) -> Refusal
         let m = part.len() / Image::INSTRUCTION_BYTES;
         for i in 0..m {
             if !instruction::place_good(part, i) {
-                found = instruction::refused_at(part, p, i);
+                found = program_fault(part, p);
                 break 'programs;
             }
         }

@@ -1,5 +1,5 @@
 -- `code_refusal` meets its contract. The invariants: nothing bad was found, every program passed is good, and so is every instruction passed of this
--- one. The measures are how many are left. Leaving by the label, this instruction is the first that is bad. Assumes nothing.
+-- one. The measures are how many are left. Leaving by the label, this program is the first that is bad. Assumes nothing.
 use mathlib.Core.Bool.{true, false}
 use mathlib.Core.Path.{_≡_, refl, sym, _∙_}
 use Prim.Native.Nat.{_≤_, _<_, _-_}
@@ -14,7 +14,7 @@ use Rattle.image.specs.Limits.{maxProgramBytes}
 use Rattle.image.specs.Instruction.{instructionsOf, placeGood, programGood}
 use Rattle.image.specs.Image.{countOf, partOf}
 use Rattle.image.specs.Refusals.{none}
-use Rattle.image.proofs.Laws.{lies, part-short, program-good, no-code-refusal, code-refused}
+use Rattle.image.proofs.Laws.{lies, part-short, program-good, program-bad, no-code-refusal, code-refused}
 use Rattle.image.proofs.code_refusal.Statement.{statement}
 use Rattle.image.proofs.code_refusal.Tie as tie
 
@@ -66,8 +66,8 @@ short c = rw (c .part-of .ensures .bytes-are) (part-short _ (c .before .before .
 place-good-requires : tie.Need-place-good-requires Inv-loop μ-loop Inv-programs μ-programs
 place-good-requires c κs = (search needs, short (c .before .before))
 
-refused-at-requires : tie.Need-refused-at-requires Inv-loop μ-loop Inv-programs μ-programs
-refused-at-requires c κs = (search needs, short (c .before .before .before .before), search needs)
+program-fault-requires : tie.Need-program-fault-requires Inv-loop μ-loop Inv-programs μ-programs
+program-fault-requires c κs = (short (c .before .before .before .before), search needs)
 
 returns-2 : tie.Need-returns-2 Inv-loop μ-loop Inv-programs μ-programs
 returns-2 c =
@@ -79,9 +79,10 @@ returns-2 c =
     let i = inner .loop .i in
     let k : i < instructionsOf (now (part .result)) = omega arith in
     let bad : placeGood (now (part .result)) i ≡ false = sym (place .place-good .ensures) ∙ not-true _ (c .before .if1 .taken) in
-    c .refused-at .ensures
-    ∙ rw (part .ensures .bytes-are) (code-refused bytes (outer .programs .p) i (omega arith) (outer .programs .inv .2)
-    (rw (part .ensures .bytes-are) at k) (rw (part .ensures .bytes-are) at (inner .loop .inv .2)) (rw (part .ensures .bytes-are) at bad))
+    c .program-fault .ensures
+    ∙ rw (part .ensures .bytes-are)
+    (code-refused bytes (outer .programs .p) (omega arith) (outer .programs .inv .2)
+    (program-bad (partOf bytes (outer .programs .p)) i (rw (part .ensures .bytes-are) at k) (rw (part .ensures .bytes-are) at bad)))
 
 pub code-refusal-spec : {M : Type 1} → statement M
 code-refusal-spec =
@@ -95,7 +96,7 @@ code-refusal-spec =
     part-of-requires
     loop-holds
     place-good-requires
-    refused-at-requires
+    program-fault-requires
     (λ c. search needs)
     (λ c. search needs)
     loop-again
