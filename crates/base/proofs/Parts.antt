@@ -7,7 +7,7 @@ use mathlib.Core.Bool.{true}
 use mathlib.Core.List.{List, [], _∷_, _++_}
 use native.Mathlib.Omega.{arith}
 use lib.ListN.{length, getD, set, take, drop, length-take, length-drop, List·getD-append}
-use lib.Seq.{ext-getD, getD-take, getD-drop, getD-append-add, take-take, drop-drop, take-append-le, take-set-le, take-set-lt, drop-at, drop-set-lt, drop-set-add, set-append-left}
+use lib.Seq.{ext-getD, getD-take, getD-drop, getD-append-add, take-suc, take-take, drop-drop, take-append-le, take-set-le, take-set-lt, drop-at, drop-set-lt, drop-set-add, set-append-left}
 use Rattle.base.specs.Words.{has, words}
 use Rattle.base.proofs.Members.{has-place}
 
@@ -22,6 +22,12 @@ words-short at n a = simp length-take (omega arith)
 pub words-at : (at n : ℕ) (a : List ℕ) (i : ℕ) → i < n → getD (words at n a) i 0 ≡ getD a (at + i) 0
 unfolding words
 words-at at n a i h = rw (getD-take, getD-drop)
+
+-- one word more
+pub words-snoc : (at n : ℕ) (a : List ℕ) → at + n < length a → words at (suc n) a ≡ words at n a ++ (getD a (at + n) 0 ∷ [])
+unfolding words
+words-snoc at n a h =
+    take-suc (drop at a) n 0 (simp length-drop (omega arith)) ∙ ap (λ (x : ℕ). take n (drop at a) ++ (x ∷ [])) (rw getD-drop)
 
 -- two lists that agree at the words have the same words
 pub words-same : (at n : ℕ) (a b : List ℕ) → at + n ≤ length a → at + n ≤ length b → ((i : ℕ) → i < n → getD a (at + i) 0 ≡ getD b (at + i) 0)

@@ -4,13 +4,13 @@ use Prim.Native.Nat.{ℕ, zero, suc, _+_, _*_, _≤_, _<_}
 use mathlib.Core.List.{List}
 use mathlib.Core.Path.{_≡_, refl, sym, ap, _∙_}
 use native.Mathlib.Omega.{arith}
-use lib.ListN.{length, getD, replicate, getD-replicate}
+use lib.ListN.{length, getD, replicate}
 use borrow.Author.Tests.{lt-ltb, le-ltb}
-use Rattle.image.specs.Limits.{maxCells, instructionBytes}
+use Rattle.image.specs.Limits.{instructionBytes}
 use Rattle.image.specs.Instruction.{byteOf, instructionsOf}
 use Rattle.slot.specs.States.{waiting}
 use Rattle.slot.specs.Layout.{listWords, slotWords}
-use Rattle.slot.specs.Log.{Log, empty, placeIn, layout, logOf, Fits, Holds, Marked}
+use Rattle.slot.specs.Log.{Log, empty, layout, logOf, Fits, Holds}
 use Rattle.slot.proofs.Logs.{Room, empty-room}
 use Rattle.slot.specs.declared.ListKind.the-variants.{Reads, Stores}
 use Rattle.slot.proofs.Slots.{empty-fits, layout-length, layout-log, layout-count, layout-waiting}
@@ -58,7 +58,7 @@ ask-read p m = rw (first-byte p (m .place))
 
 -- ---- the invariant
 
-pub record Going (p t : List ℕ) (m : Machine) (slot marks : List ℕ) : Type 0 where
+pub record Going (p t : List ℕ) (m : Machine) (slot : List ℕ) : Type 0 where
   -- so many turns can be left, and so many are behind
   pub fuel : ℕ
   pub used : ℕ
@@ -68,14 +68,12 @@ pub record Going (p t : List ℕ) (m : Machine) (slot marks : List ℕ) : Type 0
   pub budget : used + fuel ≤ listWords
   pub room : Room used log
   pub fitting : Fits (length t) log
-  pub marked : Marked marks (log .cells)
   pub same-answer : runOf p t .answer ≡ runFrom fuel p t m log .answer
   pub same-log : runOf p t .log ≡ runFrom fuel p t m log .log
 
-pub going-start : (p t : List ℕ) → Runnable p → (m : Machine) (slot marks : List ℕ) → m ≡ start → slot ≡ replicate slotWords 0
-    → marks ≡ replicate maxCells 0 → Going p t m slot marks
-unfolding runOf placeIn
-going-start p t runs m slot marks at e f =
+pub going-start : (p t : List ℕ) → Runnable p → (m : Machine) (slot : List ℕ) → m ≡ start → slot ≡ replicate slotWords 0 → Going p t m slot
+unfolding runOf
+going-start p t runs m slot at e =
     record {
       fuel = instructionsOf p;
       used = 0;
@@ -85,15 +83,11 @@ going-start p t runs m slot marks at e f =
       budget = omega (arith, runs .short);
       room = empty-room 0;
       fitting = empty-fits (length t);
-      marked = record {
-        marks-length = ap length f;
-        mark = λ c h. ap (λ (x : List ℕ). getD x c 0) f ∙ getD-replicate maxCells c 0 0 h;
-      };
       same-answer = rw at;
       same-log = rw at;
     }
 
-module _ {p t : List ℕ} {m : Machine} {slot marks : List ℕ} (runs : Runnable p) (g : Going p t m slot marks) where
+module _ {p t : List ℕ} {m : Machine} {slot : List ℕ} (runs : Runnable p) (g : Going p t m slot) where
   log-is : logOf slot ≡ g .log
   log-is = ap logOf (g .is) ∙ layout-log waiting 0 (g .log) (length t) (g .fitting)
 
@@ -108,13 +102,13 @@ module _ {p t : List ℕ} {m : Machine} {slot marks : List ℕ} (runs : Runnable
             rw (g .is, layout-count waiting 0 (g .log) Reads) (omega (arith, g .room .room Reads, g .budget, g .enough));
         store-room =
             rw (g .is, layout-count waiting 0 (g .log) Stores) (omega (arith, g .room .room Stores, g .budget, g .enough));
+        once-each = λ k. rw log-is (g .fitting .once-each k);
         paired = rw log-is (g .fitting .paired);
         is = g .is ∙ ap (layout waiting 0) (sym log-is);
       }
 
-  pub going-ready : length t ≤ maxCells → m .place < instructionsOf p → Ready t m slot marks
-  going-ready h u =
-      record { cells = h; within = omega (arith, runs .short); holds = going-holds u; marked = rw log-is (g .marked) }
+  pub going-ready : m .place < instructionsOf p → Ready m slot
+  going-ready u = record { within = omega (arith, runs .short); holds = going-holds u }
 
   -- past the last instruction the run has finished
   end-from : (n : ℕ) (l : Log) → instructionsOf p ≤ m .place → runFrom n p t m l ≡ ended l
@@ -156,8 +150,8 @@ module _ {p t : List ℕ} {m : Machine} {slot marks : List ℕ} (runs : Runnable
             },
           )
 
-  module _ (r : Turned) (slot′ marks′ : List ℕ) (u : m .place < instructionsOf p) (d : Did t m (logOf slot) (askRead p m) r slot′ marks′) where
-    did-is : Did t m (g .log) (askAt p m) r slot′ marks′
+  module _ (r : Turned) (slot′ : List ℕ) (u : m .place < instructionsOf p) (d : Did t m (logOf slot) (askRead p m) r slot′) where
+    did-is : Did t m (g .log) (askAt p m) r slot′
     did-is = rw log-is at (did-as (ask-read p m) d)
 
     abbrev taken : Effect
@@ -180,7 +174,7 @@ module _ {p t : List ℕ} {m : Machine} {slot marks : List ℕ} (runs : Runnable
     pub going-forward : r .turn ≡ Next → m .place < r .machine .place
     going-forward e = turn-forward p t m (g .log) (r .machine) (logAfter taken) (step-next e)
 
-    pub going-next : r .turn ≡ Next → Going p t (r .machine) slot′ marks′
+    pub going-next : r .turn ≡ Next → Going p t (r .machine) slot′
     unfolding follow
     going-next e =
         let n : ℕ = turn-left u .0 in
@@ -195,7 +189,6 @@ module _ {p t : List ℕ} {m : Machine} {slot marks : List ℕ} (runs : Runnable
           budget = omega (arith, g .budget, w .one-less);
           room = f .1;
           fitting = f .0;
-          marked = did-is .marked;
           same-answer = w .left-answer ∙ ap (λ (s : Effect). follow (runFrom n p t) s .answer) (step-next e);
           same-log = w .left-log ∙ ap (λ (s : Effect). follow (runFrom n p t) s .log) (step-next e);
         }

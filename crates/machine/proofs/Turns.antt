@@ -8,7 +8,7 @@ use lib.ListN.{length, getD}
 use borrow.Author.Tests.{lt-ltb, le-ltb}
 use Rattle.slot.specs.States.{waiting}
 use Rattle.slot.specs.Layout.{firstValue}
-use Rattle.slot.specs.Log.{Log, empty, placeIn, layout, logOf, loaded, withRead, withStore, Holds, Marked}
+use Rattle.slot.specs.Log.{Log, empty, placeIn, layout, logOf, loaded, withRead, withStore, Holds}
 use Rattle.slot.proofs.Noted.{fresh-value, own-value, own-read}
 use Rattle.machine.specs.declared.Machine.{Machine}
 use Rattle.machine.specs.declared.Turned.{Turned}
@@ -49,32 +49,31 @@ load-own t m s h r c same a u k e n =
 
 -- ---- a turn whose step is known
 
-did : {t : List ℕ} {m : Machine} {l : Log} {k : Ask} {r : Turned} {slot marks : List ℕ} (s : Effect) → perform t m l k ≡ s → r ≡ turned m s
-    → slot ≡ layout waiting 0 (logAfter s) → Marked marks (logAfter s .cells) → Did t m l k r slot marks
-did s e p q h = record { answered = rw e p; logged = rw e q; marked = rw e h }
+did : {t : List ℕ} {m : Machine} {l : Log} {k : Ask} {r : Turned} {slot : List ℕ} (s : Effect) → perform t m l k ≡ s → r ≡ turned m s
+    → slot ≡ layout waiting 0 (logAfter s) → Did t m l k r slot
+did s e p q = record { answered = rw e p; logged = rw e q }
 
 -- n is the machine that the code goes on with
-pub did-next : {t : List ℕ} {m : Machine} {l : Log} {k : Ask} {r : Turned} {slot marks : List ℕ} (n m′ : Machine) (l′ : Log)
-    → perform t m l k ≡ next m′ l′ → r ≡ turned n (next n empty) → n ≡ m′ → slot ≡ layout waiting 0 l′ → Marked marks (l′ .cells)
-    → Did t m l k r slot marks
-did-next n m′ l′ e p q f h = did (next m′ l′) e (p ∙ ap (λ (x : Machine). turned x (next x empty)) q) f h
+pub did-next : {t : List ℕ} {m : Machine} {l : Log} {k : Ask} {r : Turned} {slot : List ℕ} (n m′ : Machine) (l′ : Log)
+    → perform t m l k ≡ next m′ l′ → r ≡ turned n (next n empty) → n ≡ m′ → slot ≡ layout waiting 0 l′ → Did t m l k r slot
+did-next n m′ l′ e p q f = did (next m′ l′) e (p ∙ ap (λ (x : Machine). turned x (next x empty)) q) f
 
-pub did-stop : {t : List ℕ} {m : Machine} {l : Log} {k : Ask} {r : Turned} {slot marks : List ℕ} (x : Run) → perform t m l k ≡ stop x l
-    → r ≡ turned m (stop x empty) → slot ≡ layout waiting 0 l → Marked marks (l .cells) → Did t m l k r slot marks
-did-stop {l = l} x e p f h = did (stop x l) e p f h
+pub did-stop : {t : List ℕ} {m : Machine} {l : Log} {k : Ask} {r : Turned} {slot : List ℕ} (x : Run) → perform t m l k ≡ stop x l
+    → r ≡ turned m (stop x empty) → slot ≡ layout waiting 0 l → Did t m l k r slot
+did-stop {l = l} x e p f = did (stop x l) e p f
 
--- a turn that leaves the slot and the marks alone
-module _ {t : List ℕ} {m : Machine} {s marks : List ℕ} (h : Ready t m s marks) where
-  pub did-move : {k : Ask} {r : Turned} (n m′ : Machine) → k ≡ move m′ → n ≡ m′ → r ≡ turned n (next n empty) → Did t m (logOf s) k r s marks
+-- a turn that leaves the slot alone
+module _ {t : List ℕ} {m : Machine} {s : List ℕ} (h : Ready m s) where
+  pub did-move : {k : Ask} {r : Turned} (n m′ : Machine) → k ≡ move m′ → n ≡ m′ → r ≡ turned n (next n empty) → Did t m (logOf s) k r s
   unfolding perform
-  did-move n m′ e q p = did-next n m′ (logOf s) (ap (perform t m (logOf s)) e) p q (h .holds .is) (h .marked)
+  did-move n m′ e q p = did-next n m′ (logOf s) (ap (perform t m (logOf s)) e) p q (h .holds .is)
 
-  pub did-halt : {k : Ask} {r : Turned} (x : Run) → k ≡ halt x → r ≡ turned m (stop x empty) → Did t m (logOf s) k r s marks
+  pub did-halt : {k : Ask} {r : Turned} (x : Run) → k ≡ halt x → r ≡ turned m (stop x empty) → Did t m (logOf s) k r s
   unfolding perform
-  did-halt x e p = did-stop x (ap (perform t m (logOf s)) e) p (h .holds .is) (h .marked)
+  did-halt x e p = did-stop x (ap (perform t m (logOf s)) e) p (h .holds .is)
 
-pub did-as : {t : List ℕ} {m : Machine} {l : Log} {j k : Ask} {r : Turned} {slot marks : List ℕ} → k ≡ j → Did t m l j r slot marks
-    → Did t m l k r slot marks
+pub did-as : {t : List ℕ} {m : Machine} {l : Log} {j k : Ask} {r : Turned} {slot : List ℕ} → k ≡ j → Did t m l j r slot
+    → Did t m l k r slot
 did-as e h = rw e h
 
 -- at least n, and not n

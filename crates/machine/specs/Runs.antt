@@ -6,11 +6,11 @@ use mathlib.Core.Bool.{Bool, true, false, cond}
 use mathlib.Core.List.{List, [], _∷_, _++_}
 use lib.ListN.{length, getD, replicate}
 use lib.Dec.{ltb}
-use Rattle.image.specs.Limits.{registers, instructionBytes, maxInstructions, maxProgramBytes, maxCells}
+use Rattle.image.specs.Limits.{registers, instructionBytes, maxInstructions, maxProgramBytes}
 use Rattle.image.specs.Instruction.{instructionsOf, programGood}
 use Rattle.slot.specs.States.{waiting, gathered, rejected, faulted}
 use Rattle.slot.specs.Layout.{slotWords}
-use Rattle.slot.specs.Log.{Log, empty, loaded, withRead, withStore, layout, logOf, Holds, Marked}
+use Rattle.slot.specs.Log.{Log, empty, loaded, withRead, withStore, layout, Holds}
 use Rattle.machine.specs.declared.Machine.{Machine}
 use Rattle.machine.specs.declared.Run.{Run}
 use Rattle.machine.specs.declared.Run.the-variants.{Finished, Rejected, Faulted}
@@ -121,11 +121,9 @@ pub record Runnable (p : List ℕ) : Type 0 where
   pub good : programGood p ≡ true
 
 -- What the turns of a run begin with: a program that can be run, and nothing read or stored.
-pub record Begins (p t slot marks : List ℕ) : Type 0 where
+pub record Begins (p slot : List ℕ) : Type 0 where
   pub runnable : Runnable p
-  pub cells : length t ≤ maxCells
   pub no-log : slot ≡ replicate slotWords 0
-  pub no-marks : marks ≡ replicate maxCells 0
 
 -- The bytes that name registers do.
 pub record Named (op a b c : ℕ) : Type 0 where
@@ -134,11 +132,9 @@ pub record Named (op a b c : ℕ) : Type 0 where
   pub third : 4 ≤ op → op ≤ 5 → c < registers
 
 -- What a turn needs.
-pub record Ready (t : List ℕ) (m : Machine) (slot marks : List ℕ) : Type 0 where
-  pub cells : length t ≤ maxCells
+pub record Ready (m : Machine) (slot : List ℕ) : Type 0 where
   pub within : m .place < maxInstructions
   pub holds : Holds slot
-  pub marked : Marked marks (logOf slot .cells)
 
 abbrev pub logAfter : Effect → Log
 logAfter (stop r l) = l
@@ -149,11 +145,10 @@ abbrev pub turned : Machine → Effect → Turned
 turned m (stop r l) = record { turn = Stop r; machine = m }
 turned m (next m′ l) = record { turn = Next; machine = m′ }
 
--- What a turn leaves that performed an ask: its answer, the slot, and the marks by which the run knows what it has stored.
-pub record Did (t : List ℕ) (m : Machine) (l : Log) (ask : Ask) (r : Turned) (slot marks : List ℕ) : Type 0 where
+-- What a turn leaves that performed an ask: its answer, and the slot.
+pub record Did (t : List ℕ) (m : Machine) (l : Log) (ask : Ask) (r : Turned) (slot : List ℕ) : Type 0 where
   pub answered : r ≡ turned m (perform t m l ask)
   pub logged : slot ≡ layout waiting 0 (logAfter (perform t m l ask))
-  pub marked : Marked marks (logAfter (perform t m l ask) .cells)
 
 -- What the run of a program says: its answer, and its whole slot.
 pub record RunSays (p t : List ℕ) (r : Run) (slot : List ℕ) : Type 0 where

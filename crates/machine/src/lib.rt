@@ -167,14 +167,14 @@ impl Machine {
     }
 
     // Register a gets cell number r[b]: the value that the run has stored there, or the table's, which is then a read.
-    fn load(self, a: u8, b: u8, table: &[u32], slot: &mut [u32], marks: &slot::Marks) -> Turned
-        requires { ⌜ Ready (now table) self (now slot) (now marks) × (a < registers) × (b < registers) ⌝ }
-        ensures { λ r. ⌜ Did (now (table .entry)) self (logOf (now (slot .entry))) (opLoad self a b) r (now (slot .exit)) (now (marks .entry)) ⌝ }
+    fn load(self, a: u8, b: u8, table: &[u32], slot: &mut [u32]) -> Turned
+        requires { ⌜ Ready self (now slot) × (a < registers) × (b < registers) ⌝ }
+        ensures { λ r. ⌜ Did (now (table .entry)) self (logOf (now (slot .entry))) (opLoad self a b) r (now (slot .exit)) ⌝ }
     {
         let c = self.register(b);
         let i = c as usize;
         if i < table.len() {
-            let k = slot::stored_place(slot, marks, c);
+            let k = slot::stored_place(slot, c);
             if k == 0 {
                 slot::note_read(slot, c);
                 return self.written(a, table[i]).goes();
@@ -185,38 +185,29 @@ impl Machine {
     }
 
     // Cell number r[a] gets r[b].
-    fn store(self, a: u8, b: u8, table: &[u32], slot: &mut [u32], marks: &mut slot::Marks) -> Turned
-        requires { ⌜ Ready (now table) self (now slot) (now marks) × (a < registers) × (b < registers) ⌝ }
-        ensures { λ r. ⌜ Did (now (table .entry)) self (logOf (now (slot .entry))) (opStore self a b) r (now (slot .exit)) (now (marks .exit)) ⌝ }
+    fn store(self, a: u8, b: u8, table: &[u32], slot: &mut [u32]) -> Turned
+        requires { ⌜ Ready self (now slot) × (a < registers) × (b < registers) ⌝ }
+        ensures { λ r. ⌜ Did (now (table .entry)) self (logOf (now (slot .entry))) (opStore self a b) r (now (slot .exit)) ⌝ }
     {
         let c = self.register(a);
         let i = c as usize;
         if i < table.len() {
-            slot::note_store(slot, marks, c, self.register(b));
+            slot::note_store(slot, c, self.register(b));
             return self.passed().goes();
         }
         self.faults(STORE_FAULT)
     }
 
     // One turn: the instruction op, a, b, c.
-    fn step(
-        self,
-        op: u8,
-        a: u8,
-        b: u8,
-        c: u8,
-        table: &[u32],
-        slot: &mut [u32],
-        marks: &mut slot::Marks,
-    ) -> Turned
-        requires { ⌜ Ready (now table) self (now slot) (now marks) × Named op a b c ⌝ }
-        ensures { λ r. ⌜ Did (now (table .entry)) self (logOf (now (slot .entry))) (askOf op a b c self) r (now (slot .exit)) (now (marks .exit)) ⌝ }
+    fn step(self, op: u8, a: u8, b: u8, c: u8, table: &[u32], slot: &mut [u32]) -> Turned
+        requires { ⌜ Ready self (now slot) × Named op a b c ⌝ }
+        ensures { λ r. ⌜ Did (now (table .entry)) self (logOf (now (slot .entry))) (askOf op a b c self) r (now (slot .exit)) ⌝ }
     {
         match op {
             0 => self.stops(Run::Finished),
             1 => self.set(a, b, c).goes(),
-            2 => self.load(a, b, table, slot, marks),
-            3 => self.store(a, b, table, slot, marks),
+            2 => self.load(a, b, table, slot),
+            3 => self.store(a, b, table, slot),
             4 => self.add(a, b, c).goes(),
             5 => self.sub(a, b, c).goes(),
             6 => self.skip_less(a, b, c).goes(),
@@ -228,8 +219,8 @@ impl Machine {
 }
 
 // The turns of a run, from an empty log. Every turn goes forward; arriving at m is an end.
-fn take_turns(program: &[u8], table: &[u32], slot: &mut [u32], marks: &mut slot::Marks) -> Run
-    requires { ⌜ Begins (now program) (now table) (now slot) (now marks) ⌝ }
+fn take_turns(program: &[u8], table: &[u32], slot: &mut [u32]) -> Run
+    requires { ⌜ Begins (now program) (now slot) ⌝ }
     ensures { λ r. ⌜ r ≡ runOf (now (program .entry)) (now (table .entry)) .answer ⌝ }
     ensures { λ _. ⌜ now (slot .exit) ≡ layout waiting 0 (runOf (now (program .entry)) (now (table .entry)) .log) ⌝ }
 {
@@ -244,7 +235,6 @@ fn take_turns(program: &[u8], table: &[u32], slot: &mut [u32], marks: &mut slot:
             program[at + 3],
             table,
             slot,
-            marks,
         );
         let turn = turned.turn;
         let after = turned.machine;
@@ -320,8 +310,7 @@ pub fn run_program(program: &[u8], table: &[u32], slot: &mut [u32]) -> Run
     ensures { λ r. ⌜ RunSays (now (program .entry)) (now (table .entry)) r (now (slot .exit)) ⌝ }
 {
     slot::clear(slot);
-    let mut marks: slot::Marks = [0u8; image::Image::CELLS];
-    let run = take_turns(program, table, slot, &mut marks);
+    let run = take_turns(program, table, slot);
     finish(slot, run);
     run
 }

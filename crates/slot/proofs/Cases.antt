@@ -7,12 +7,17 @@ use mathlib.Core.Path.{_≡_, refl}
 use lib.ListN.{length, replicate}
 use Rattle.slot.specs.States.{waiting, gathered, rejected, faulted, committed, carried, lastState, isEnd}
 use Rattle.slot.specs.Layout.{stateWord, detailWord, readCount, storeCount, listWords, firstRead, firstStore, firstValue, slotWords}
-use Rattle.slot.specs.Log.{Log, empty, loaded, withRead, withStore, layout, logOf}
+use Rattle.slot.specs.Log.{Log, empty, placeIn, newestIn, loaded, withRead, withStore, layout, logOf}
 use Rattle.slot.specs.Opened.{opened}
 
 -- these reads, stored cells and values
 abbrev log : List ℕ → List ℕ → List ℕ → Log
 log reads cells values = record { reads = reads; cells = cells; values = values }
+
+-- n numbers from one on
+abbrev from : ℕ → ℕ → List ℕ
+from first zero = []
+from first (suc n) = first ∷ from (suc first) n
 
 -- what was done before each of the next cases: cells 1 and 2 read, then 40 stored to cell 4 and 50 to cell 5
 abbrev before : Log
@@ -49,6 +54,22 @@ load-the-last-store : loaded (withStore before 4 41) 4 9 ≡ 41
 unfolding opened
 load-the-last-store = refl
 
+-- ---- document 02, ask 4: "Look through the program's own stores instead, newest first."
+
+-- where cells stand twice, the newest place of each counts, and 0 says that there is none; the first place of cell 4 is another
+newest : map (λ c. newestIn c (4 ∷ 5 ∷ 4 ∷ 6 ∷ 6 ∷ [])) (4 ∷ 5 ∷ 6 ∷ 7 ∷ []) ≡ 3 ∷ 2 ∷ 5 ∷ 0 ∷ []
+unfolding opened
+newest = refl
+
+first-place : placeIn 4 (4 ∷ 5 ∷ 4 ∷ []) ≡ 1
+unfolding opened
+first-place = refl
+
+-- among as many as a slot has, none twice: the newest, the oldest and one that is not there, each at its first place
+newest-of-32 : map (λ c. newestIn c (from 0 32)) (31 ∷ 0 ∷ 32 ∷ []) ≡ 32 ∷ 1 ∷ 0 ∷ []
+unfolding opened
+newest-of-32 = refl
+
 -- ---- "The work area": a slot
 
 -- "a slot of 100 words per program: state, detail, read count, store count, 32 read cells, 32 stored cells, 32 stored values"
@@ -61,11 +82,6 @@ laid-out : layout 5 3 (log (6 ∷ 2 ∷ 7 ∷ []) (9 ∷ 4 ∷ []) (90 ∷ 40 �
     ≡ 5 ∷ 3 ∷ 3 ∷ 2 ∷ (6 ∷ 2 ∷ 7 ∷ replicate 29 0) ++ (9 ∷ 4 ∷ replicate 30 0) ++ (90 ∷ 40 ∷ replicate 30 0)
 unfolding opened
 laid-out = refl
-
--- n numbers from one on
-abbrev from : ℕ → ℕ → List ℕ
-from first zero = []
-from first (suc n) = first ∷ from (suc first) n
 
 -- lists of 32 fill their words
 laid-out-full : layout 1 0 (log (from 0 32) (from 32 32) (from 64 32)) ≡ 1 ∷ 0 ∷ 32 ∷ 32 ∷ from 0 96

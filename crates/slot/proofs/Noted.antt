@@ -1,21 +1,16 @@
--- What each store of `note_read` and `note_store` does to a slot that holds a log, and to the marks. Assumes nothing.
+-- What each store of `note_read` and `note_store` does to a slot that holds a log. Assumes nothing.
 use Prim.Native.Nat.{ℕ, zero, suc, _+_, _-_, _≤_, _<_}
-use mathlib.Core.Bool.{true, false}
-use mathlib.Core.Logic.{_⊎_, inl, inr}
 use mathlib.Core.Path.{_≡_, refl, sym, ap, _∙_}
 use mathlib.Core.List.{List, [], _∷_, _++_}
 use native.Mathlib.Omega.{arith}
 use lib.ListN.{length, getD, set, replicate, length-append, length-set}
-use lib.Seq.{set-at, set-append-left, append-snoc, getD-set-same, getD-set-other}
-use lib.Dec.{eqb}
-use borrow.Author.Tests.{eqb-true, eqb-false}
-use Rattle.base.proofs.Bools.{known}
+use lib.Seq.{set-at, set-append-left, append-snoc}
 use Rattle.base.proofs.Parts.{words-at, set-between}
-use Rattle.image.specs.Limits.{maxCells}
 use Rattle.slot.specs.States.{waiting}
 use Rattle.slot.specs.Layout.{readCount, storeCount, listWords, firstRead, firstStore, firstValue}
-use Rattle.slot.specs.Log.{Log, placeIn, once, loaded, withRead, withStore, pad, layout, logOf, Holds, Marked}
-use Rattle.slot.proofs.Places.{length-snoc, found, place-bound, place-new, place-other, once-new, once-old}
+use Rattle.slot.specs.Log.{Log, cellsOf, placeIn, newestIn, once, loaded, withRead, withStore, pad, layout, logOf, Holds}
+use Rattle.slot.proofs.Places.{length-snoc, found, place-bound, one-place, once-new, once-old}
+use Rattle.slot.specs.declared.ListKind.{ListKind}
 use Rattle.slot.specs.declared.ListKind.the-variants.{Stores}
 use Rattle.slot.proofs.ListKinds.{each-kind}
 use Rattle.slot.proofs.Slots.{thirds, Sized, rs-full, cs-full, vs-full}
@@ -89,17 +84,21 @@ module _ (l : Log) (z : Sized l) where
 -- ---- the slot of a run on its way
 
 module _ (s : List ℕ) (h : Holds s) where
-  pub reads-count : getD s readCount 0 ≡ length (logOf s .reads)
+  reads-count : getD s readCount 0 ≡ length (logOf s .reads)
   unfolding layout
   reads-count = ap (λ (x : List ℕ). getD x readCount 0) (h .is)
 
-  pub cells-count : getD s storeCount 0 ≡ length (logOf s .cells)
+  cells-count : getD s storeCount 0 ≡ length (logOf s .cells)
   unfolding layout
   cells-count = ap (λ (x : List ℕ). getD x storeCount 0) (h .is)
 
   holds-sized : Sized (logOf s)
   holds-sized =
       record { few = each-kind _ (omega (arith, reads-count, h .read-room)) (omega (arith, cells-count, h .store-room)); paired = h .paired }
+
+  -- no cell stands twice in a list, so that the newest place of one is its first
+  pub newest-first : (k : ListKind) (c : ℕ) → newestIn c (cellsOf k (logOf s)) ≡ placeIn c (cellsOf k (logOf s))
+  newest-first k c = one-place c (cellsOf k (logOf s)) (h .once-each k)
 
   -- the place of a stored cell is no more than 32
   pub place-small : (c : ℕ) → placeIn c (logOf s .cells) ≤ listWords
@@ -162,23 +161,3 @@ module _ (s : List ℕ) (h : Holds s) where
   unfolding withRead
   own-read c zero e n = absurd (n refl)
   own-read c (suc k) e n = rw (← e)
-
--- ---- the marks
-
--- a new stored cell is marked with the count of stored cells, itself among them
-pub marks-new : (marks cells : List ℕ) (c n : ℕ) → Marked marks cells → c < maxCells → placeIn c cells ≡ 0 → n ≡ length cells + 1
-    → Marked (set marks c n) (once c cells)
-marks-new marks cells c n h l e f =
-    record {
-      marks-length = length-set marks c n ∙ h .marks-length;
-      mark = λ d s. rw (once-new c cells e) (go d s (known (eqb d c)));
-    }
-  where
-    go : (d : ℕ) → d < maxCells → (eqb d c ≡ true) ⊎ (eqb d c ≡ false) → getD (set marks c n) d 0 ≡ placeIn d (cells ++ (c ∷ []))
-    go d s (inl q) =
-        rw (eqb-true d c q) (getD-set-same marks c n 0 (omega (arith, h .marks-length)) ∙ (f ∙ sym (place-new c cells e)))
-    go d s (inr q) =
-        getD-set-other marks c d n 0 (eqb-false d c q) ∙ (h .mark d s ∙ sym (place-other d c cells (eqb-false d c q)))
-
-pub marks-old : (marks cells : List ℕ) (c : ℕ) → Marked marks cells → (placeIn c cells ≡ 0 → ⊥) → Marked marks (once c cells)
-marks-old marks cells c h n = rw (once-old c cells n) h

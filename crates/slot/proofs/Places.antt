@@ -1,19 +1,19 @@
 -- A cell's place in a list, and a list with the cell once. Assumes nothing.
-use Prim.Native.Nat.{ℕ, zero, suc, _+_, _≤_, _<_}
-use mathlib.Core.Bool.{Bool, true, false, cond}
+use Prim.Native.Nat.{ℕ, zero, suc, _+_, _-_, _≤_, _<_}
+use mathlib.Core.Bool.{Bool, true, false, not, cond}
 use mathlib.Core.Logic.{_⊎_, inl, inr}
-use mathlib.Core.Path.{_≡_, refl, sym, _∙_}
+use mathlib.Core.Path.{_≡_, refl, sym, ap, _∙_}
 use mathlib.Core.List.{List, [], _∷_, _++_}
 use native.Mathlib.Numerals.{add-one}
 use native.Mathlib.Omega.{arith}
-use lib.ListN.{length, getD, length-append, List·getD-append}
-use lib.Seq.{getD-append-seam}
+use lib.ListN.{length, getD, length-append}
 use lib.Dec.{eqb}
 use borrow.Author.Tests.{eqb-true, eq-eqb, ne-eqb}
-use Rattle.base.specs.Words.{has, distinct}
-use Rattle.base.proofs.Bools.{clash, not-true}
+use Rattle.base.specs.Words.{has, distinct, words}
+use Rattle.base.proofs.Bools.{clash, not-true, nots, and-left, and-right}
 use Rattle.base.proofs.Members.{has-cases, has-none, has-getD, has-left, has-right, has-head, has-either, has-only, distinct-snoc}
-use Rattle.slot.specs.Log.{placeIn, later, onceBy, once}
+use Rattle.base.proofs.Parts.{words-length, words-snoc}
+use Rattle.slot.specs.Log.{placeIn, later, newestBy, newestIn, onceBy, once}
 
 pub length-snoc : (xs : List ℕ) (x : ℕ) → length (xs ++ (x ∷ [])) ≡ length xs + 1
 length-snoc xs x = length-append xs (x ∷ [])
@@ -61,35 +61,49 @@ place-bound c xs = go (placeIn c xs) refl
     go zero e = omega arith
     go (suc k) e = omega (arith, found c xs k e .0)
 
--- ---- the place that a search finds
+-- ---- the place that a search from the newest finds
 
--- the cell stands at i, and at none before
-pub place-first : (c : ℕ) (xs : List ℕ) (i : ℕ) → i < length xs → ((k : ℕ) → k < i → c ≡ getD xs k 0 → ⊥) → c ≡ getD xs i 0
-    → placeIn c xs ≡ i + 1
-unfolding placeIn
-place-first c [] i l h e = absurd (omega arith)
-place-first c (x ∷ xs) zero l h e = rw (eq-eqb c x e)
-place-first c (x ∷ xs) (suc i) l h e =
-    rw (ne-eqb c x (h 0 (omega arith)), place-first c xs i (omega arith) (λ k s q. h (suc k) (omega arith) q) e, add-one) (omega arith)
+-- the newest entry is looked at first, and those before it where that one is another
+pub newest-here : (c : ℕ) (xs : List ℕ) → newestIn c (xs ++ (c ∷ [])) ≡ length xs + 1
+unfolding newestIn
+newest-here c [] = rw (eq-eqb c c refl)
+newest-here c (x ∷ xs) = rw (newest-here c xs, add-one (length xs)) (omega arith)
 
--- it stands nowhere
-pub place-none : (c : ℕ) (xs : List ℕ) → ((k : ℕ) → k < length xs → c ≡ getD xs k 0 → ⊥) → placeIn c xs ≡ 0
-unfolding placeIn
-place-none c [] h = refl
-place-none c (x ∷ xs) h = rw (ne-eqb c x (h 0 (omega arith)), place-none c xs (λ k s q. h (suc k) (omega arith) q))
+pub newest-before : (c d : ℕ) (xs : List ℕ) → (c ≡ d → ⊥) → newestIn c (xs ++ (d ∷ [])) ≡ newestIn c xs
+unfolding newestIn
+newest-before c d [] h = rw (ne-eqb c d h)
+newest-before c d (x ∷ xs) h = rw (newest-before c d xs h)
 
--- ---- one more at the end
+-- the same of the words of a slot: of none, and of i, whose newest stands at the place i - 1
+pub newest-of-none : (c at : ℕ) (s : List ℕ) → newestIn c (words at 0 s) ≡ 0
+unfolding newestIn words
+newest-of-none c at s = refl
 
-pub place-new : (c : ℕ) (xs : List ℕ) → placeIn c xs ≡ 0 → placeIn c (xs ++ (c ∷ [])) ≡ length xs + 1
-place-new c xs e =
-    place-first c (xs ++ (c ∷ [])) (length xs) (omega (arith, length-snoc xs c))
-    (λ k s q. clash (rw (← q ∙ List·getD-append xs (c ∷ []) 0 k s) at (has-getD xs k s)) (absent c xs e))
-    (sym (getD-append-seam xs c [] 0))
+module _ (c at i : ℕ) (s : List ℕ) (some : 0 < i) (long : at + i ≤ length s) where
+  last-word : words at i s ≡ words at (i - 1) s ++ (getD s (at + i - 1) 0 ∷ [])
+  last-word =
+      let e : i ≡ suc (i - 1) = omega arith in
+      let f : at + i - 1 ≡ at + (i - 1) = omega arith in
+      rw f (ap (λ (k : ℕ). words at k s) e ∙ words-snoc at (i - 1) s (omega arith))
 
-pub place-other : (c d : ℕ) (xs : List ℕ) → (c ≡ d → ⊥) → placeIn c (xs ++ (d ∷ [])) ≡ placeIn c xs
-unfolding placeIn
-place-other c d [] h = rw (ne-eqb c d h)
-place-other c d (x ∷ xs) h = rw (place-other c d xs h)
+  pub newest-word : c ≡ getD s (at + i - 1) 0 → newestIn c (words at i s) ≡ i
+  newest-word e = rw (last-word, ← e, newest-here c (words at (i - 1) s), words-length at (i - 1) s (omega arith)) (omega arith)
+
+  pub newest-other : (c ≡ getD s (at + i - 1) 0 → ⊥) → newestIn c (words at i s) ≡ newestIn c (words at (i - 1) s)
+  newest-other n = ap (newestIn c) last-word ∙ newest-before c _ (words at (i - 1) s) n
+
+-- a cell that stands once has one place, from whichever end it is looked for
+pub one-place : (c : ℕ) (xs : List ℕ) → distinct xs ≡ true → newestIn c xs ≡ placeIn c xs
+unfolding newestIn placeIn distinct
+one-place c [] d = refl
+one-place c (x ∷ xs) d = rw (one-place c xs (and-right (not (has x xs)) (distinct xs) d)) (go (eqb c x) refl (placeIn c xs) refl)
+  where
+    go : (b : Bool) → eqb c x ≡ b → (k : ℕ) → placeIn c xs ≡ k → newestBy k b ≡ cond b 1 (later k)
+    go true e zero p = refl
+    go true e (suc k) p =
+        clash (rw (eqb-true c x e) at (present c xs k p)) (nots (has x xs) (and-left (not (has x xs)) (distinct xs) d))
+    go false e zero p = refl
+    go false e (suc k) p = refl
 
 -- ---- once
 

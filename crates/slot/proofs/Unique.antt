@@ -1,12 +1,9 @@
 -- No second result: for each public call, two outcomes that meet its contract at the same arguments look the same. Assumes nothing.
 use Prim.Native.Nat.{ℕ}
 use mathlib.Core.List.{List}
-use mathlib.Core.Path.{_≡_, sym, _∙_}
-use native.Mathlib.Omega.{arith}
-use lib.Seq.{ext-getD}
+use mathlib.Core.Path.{sym, _∙_}
 use denote.Ref.{now}
 use Rattle.base.specs.Unique.{Unique}
-use Rattle.slot.specs.Log.{Marked}
 use Rattle.slot.proofs.can_settle.Kinds as can-settle-kinds
 use Rattle.slot.proofs.can_settle.Reads as can-settle
 use Rattle.slot.proofs.is_in.Kinds as is-in-kinds
@@ -39,17 +36,11 @@ first-word-unique κs a x y s t p q = p ∙ sym q
 pub clear-unique : Unique {A = List ℕ} 1 clear-kinds.ps clear-kinds.r (λ κs x s. now (s .0)) clear.Post
 clear-unique κs a x y s t p q = p ∙ sym q
 
-pub stored-place-unique : Unique 2 stored-place-kinds.ps stored-place-kinds.r (λ κs x s. x) stored-place.Post
+pub stored-place-unique : Unique 1 stored-place-kinds.ps stored-place-kinds.r (λ κs x s. x) stored-place.Post
 stored-place-unique κs a x y s t p q = p .0 ∙ sym (q .0)
 
--- the marks of the same stored cells are the same
-marked-unique : (cells marks marks′ : List ℕ) → Marked marks cells → Marked marks′ cells → marks ≡ marks′
-marked-unique cells marks marks′ h k =
-    ext-getD 0 marks marks′ (h .marks-length ∙ sym (k .marks-length))
-    (λ c l. h .mark c (omega (arith, h .marks-length)) ∙ sym (k .mark c (omega (arith, h .marks-length))))
-
-pub note-store-unique : Unique {A = List ℕ × List ℕ} 2 note-store-kinds.ps note-store-kinds.r (λ κs x s. (now (s .0), now (s .1 .0))) note-store.Post
-note-store-unique κs a x y s t p q = let same = marked-unique _ (now (s .1 .0)) (now (t .1 .0)) (p .1) (q .1) in cc
+pub note-store-unique : Unique {A = List ℕ} 1 note-store-kinds.ps note-store-kinds.r (λ κs x s. now (s .0)) note-store.Post
+note-store-unique κs a x y s t p q = p ∙ sym q
 
 pub note-read-unique : Unique {A = List ℕ} 1 note-read-kinds.ps note-read-kinds.r (λ κs x s. now (s .0)) note-read.Post
 note-read-unique κs a x y s t p q = p ∙ sym q

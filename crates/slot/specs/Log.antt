@@ -1,12 +1,11 @@
 -- What a run has read and stored so far, by document 01, "Instructions", and the slot that holds it. Assumes nothing.
 use Prim.Native.Nat.{ℕ, zero, suc, _+_, _-_, _≤_, _<_}
 use mathlib.Core.Path.{_≡_}
-use mathlib.Core.Bool.{true, cond}
+use mathlib.Core.Bool.{Bool, true, cond}
 use mathlib.Core.List.{List, [], _∷_, _++_}
 use lib.ListN.{length, getD, set, replicate}
 use lib.Dec.{eqb}
 use Rattle.base.specs.Words.{has, distinct, words}
-use Rattle.image.specs.Limits.{maxCells}
 use Rattle.slot.specs.declared.ListKind.{ListKind}
 use Rattle.slot.specs.declared.ListKind.the-variants.{Reads, Stores}
 use Rattle.slot.specs.States.{waiting}
@@ -92,15 +91,21 @@ pub record Fits (T : ℕ) (l : Log) : Type 0 where
   pub once-each : (k : ListKind) → distinct (cellsOf k l) ≡ true
   pub paired : length (l .values) ≡ length (l .cells)
 
--- A waiting slot that holds the log of a run on its way, with room for one more.
+-- A waiting slot that holds the log of a run on its way, no cell twice in a list, with room for one more.
 pub record Holds (s : List ℕ) : Type 0 where
   pub sized : length s ≡ slotWords
   pub read-room : getD s readCount 0 < listWords
   pub store-room : getD s storeCount 0 < listWords
+  pub once-each : (k : ListKind) → distinct (cellsOf k (logOf s)) ≡ true
   pub paired : length (logOf s .values) ≡ length (logOf s .cells)
   pub is : s ≡ layout waiting 0 (logOf s)
 
--- How a run knows what it has stored: at each cell 0, or 1 + its place among the stored cells.
-pub record Marked (marks cells : List ℕ) : Type 0 where
-  pub marks-length : length marks ≡ maxCells
-  pub mark : (c : ℕ) → c < maxCells → getD marks c 0 ≡ placeIn c cells
+-- How a run knows what it has stored. Document 02, ask 4: "Look through the program's own stores instead, newest first." 0 where c is not in the list,
+-- else 1 + its last place there: the newest entry stands last, and an older one counts only where no newer one is c.
+abbrev pub newestBy : ℕ → Bool → ℕ
+newestBy zero here = cond here 1 0
+newestBy (suc k) here = suc (suc k)
+
+unfoldable pub newestIn : ℕ → List ℕ → ℕ
+newestIn c [] = 0
+newestIn c (x ∷ xs) = newestBy (newestIn c xs) (eqb c x)

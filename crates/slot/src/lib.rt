@@ -1,12 +1,11 @@
 // A program's slot in the work area: where its words lie, its states, and how a run writes its log into it (document 01, "The work area").
 ghost use mathlib.Core.Path.{_≡_};
-ghost use Prim.Native.Nat.{_+_, _<_, _≤_};
+ghost use Prim.Native.Nat.{_+_, _≤_};
 ghost use lib.ListN.{length, replicate};
 ghost use Rattle.base.specs.Words.{words};
-ghost use Rattle.image.specs.Limits.{maxCells};
 ghost use Rattle.slot.specs.States.{waiting, canSettle, isIn};
 ghost use Rattle.slot.specs.Layout.{countWord, firstWord, listWords};
-ghost use Rattle.slot.specs.Log.{placeIn, layout, logOf, withRead, withStore, Holds, Marked};
+ghost use Rattle.slot.specs.Log.{placeIn, layout, logOf, withRead, withStore, Holds, newestIn};
 
 // Where the words of a slot lie: named here and nowhere else.
 pub const STATE: usize = 0;
@@ -107,47 +106,41 @@ pub fn clear(words: &mut [u32])
     }
 }
 
-// 0 where x is not among the n words from the word at on, else 1 + its first place there.
-fn place_in(slot: &[u32], at: usize, n: usize, x: u32) -> usize
+// 0 where x is not among the n words from the word at on, else 1 + its last place there: the newest is looked at first.
+fn newest_place(slot: &[u32], at: usize, n: usize, x: u32) -> usize
     requires { ⌜ at + n ≤ length (now slot) ⌝ }
-    ensures { λ r. ⌜ r ≡ placeIn x (words at n (now (slot .entry))) ⌝ }
+    ensures { λ r. ⌜ r ≡ newestIn x (words at n (now (slot .entry))) ⌝ }
 {
-    let mut i = 0;
-    while i < n {
-        if x == slot[at + i] {
-            return i + 1;
+    let mut left = n;
+    while left > 0 {
+        if x == slot[at + left - 1] {
+            return left;
         }
-        i += 1;
+        left -= 1;
     }
     0
 }
 
-// How a run knows what it has stored: a mark for each cell, 0 or 1 + the cell's place among the stored ones. Only the next two functions look at it.
-pub type Marks = [u8; image::Image::CELLS];
-
-// 0 where the run has not stored cell c, else 1 + the cell's place among the stored ones.
-pub fn stored_place(slot: &[u32], marks: &Marks, c: u32) -> usize
-    requires { ⌜ Holds (now slot) × Marked (now marks) (logOf (now slot) .cells) × (c < maxCells) ⌝ }
+// How a run knows what it has stored: 0 where it has not stored cell c, else 1 + the cell's place among the stored ones.
+pub fn stored_place(slot: &[u32], c: u32) -> usize
+    requires { ⌜ Holds (now slot) ⌝ }
     ensures { λ r. ⌜ (r ≡ placeIn c (logOf (now (slot .entry)) .cells)) × (r ≤ listWords) ⌝ }
 {
-    let i = c as usize;
-    marks[i] as usize
+    let n = slot[STORE_COUNT] as usize;
+    newest_place(slot, STORES, n, c)
 }
 
 // The run stores v to cell c: at its place among the stored cells, or as a new one.
-pub fn note_store(slot: &mut [u32], marks: &mut Marks, c: u32, v: u32)
-    requires { ⌜ Holds (now slot) × Marked (now marks) (logOf (now slot) .cells) × (c < maxCells) ⌝ }
+pub fn note_store(slot: &mut [u32], c: u32, v: u32)
+    requires { ⌜ Holds (now slot) ⌝ }
     ensures { λ _. ⌜ now (slot .exit) ≡ layout waiting 0 (withStore (logOf (now (slot .entry))) c v) ⌝ }
-    ensures { λ _. ⌜ Marked (now (marks .exit)) (withStore (logOf (now (slot .entry))) c v .cells) ⌝ }
 {
-    let k = stored_place(slot, marks, c);
+    let k = stored_place(slot, c);
     if k == 0 {
         let n = slot[STORE_COUNT] as usize;
         slot[STORES + n] = c;
         slot[VALUES + n] = v;
         slot[STORE_COUNT] = (n + 1) as u32;
-        let i = c as usize;
-        marks[i] = (n + 1) as u8;
     } else {
         slot[VALUES + k - 1] = v;
     }
@@ -159,7 +152,7 @@ pub fn note_read(slot: &mut [u32], c: u32)
     ensures { λ _. ⌜ now (slot .exit) ≡ layout waiting 0 (withRead (logOf (now (slot .entry))) c) ⌝ }
 {
     let n = slot[READ_COUNT] as usize;
-    if place_in(slot, READS, n, c) == 0 {
+    if newest_place(slot, READS, n, c) == 0 {
         slot[READS + n] = c;
         slot[READ_COUNT] = (n + 1) as u32;
     }

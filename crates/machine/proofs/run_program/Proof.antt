@@ -1,6 +1,6 @@
 -- The slot is cleared, the turns leave the run's log in it, and the end lays it out. Assumes nothing.
 use Prim.Native.Nat.{ℕ}
-use mathlib.Core.Path.{refl, sym, ap, _∙_}
+use mathlib.Core.Path.{sym, ap, _∙_}
 use lib.ListN.{replicate}
 use borrow.Author.Needs.{needs}
 use Rattle.slot.specs.Log.{layout}
@@ -14,14 +14,14 @@ start-of d = d .before .before .before .before .before
 
 take-turns-requires : tie.Need-take-turns-requires
 take-turns-requires c κs =
-    let d = c .before .before .before .before in
+    let d = c .before .before .before in
     let s = start-of d in
-    record { runnable = s .pre .0; cells = s .pre .1; no-log = d .clear .ensures ∙ ap (λ (k : ℕ). replicate k 0) (s .pre .2); no-marks = refl }
+    record { runnable = s .pre .0; no-log = d .clear .ensures ∙ ap (λ (k : ℕ). replicate k 0) (s .pre .2) }
 
 finish-requires : tie.Need-finish-requires
 finish-requires c κs =
     let d = c .before .before .before in
-    let s = start-of (d .before .before .before .before .before) in
+    let s = start-of (d .before .before .before .before) in
     let e = d .take-turns .ensures .1 in
     (outcome-words _ (s .args .table .now) (s .pre .0) e, e ∙ ap (layout waiting 0) (sym (outcome-log _ (s .args .table .now) (s .pre .0) e)))
 
@@ -29,7 +29,7 @@ returns : tie.Need-returns
 returns c =
     let f = c .before .before in
     let d = f .before .before .before .before in
-    let s = start-of (d .before .before .before .before .before) in
+    let s = start-of (d .before .before .before .before) in
     let w = d .take-turns in
     record {
       answer = w .ensures .0;

@@ -12,29 +12,29 @@ use Rattle.machine.proofs.take_turns.Statement.{statement}
 use Rattle.machine.proofs.take_turns.Tie as tie
 
 abbrev Inv-loop : tie.InvT-loop
-Inv-loop program table slot₀ marks₀ count machine₀ slot marks machine = (count ≡ instructionsOf program) × Going program table machine slot marks
+Inv-loop program table slot₀ count machine₀ slot machine = (count ≡ instructionsOf program) × Going program table machine slot
 
 abbrev μ-loop : tie.MeasureT-loop
-μ-loop program table slot₀ marks₀ count machine₀ slot marks machine = count - machine .place
+μ-loop program table slot₀ count machine₀ slot machine = count - machine .place
 
 abbrev start-of : tie.Then1 Inv-loop μ-loop → tie.Start Inv-loop μ-loop
 start-of i = i .before .before .before .before .before .before .before
 
 -- where the loop's test held before this turn
 abbrev turning : tie.After-step Inv-loop μ-loop → tie.Then1 Inv-loop μ-loop
-turning d = d .before .before .before .before .before .before .before .before
+turning d = d .before .before .before .before .before .before .before
 
 loop-holds : tie.Need-loop-holds Inv-loop μ-loop
 loop-holds c =
     let s = c .before .before .before .before in
-    (refl, going-start (s .args .program .now) (s .args .table .now) (s .pre .runnable) _ _ _ (c .new .ensures) (s .pre .no-log) (s .pre .no-marks))
+    (refl, going-start (s .args .program .now) (s .args .table .now) (s .pre .runnable) _ _ (c .new .ensures) (s .pre .no-log))
 
 step-requires : tie.Need-step-requires Inv-loop μ-loop
 step-requires c κs =
-    let i = c .before .before .before .before .before .before .before in
+    let i = c .before .before .before .before .before .before in
     let s = start-of i in
     let l = i .before .before .loop in (
-      going-ready (s .pre .runnable) (l .inv .1) (s .pre .cells) (i .if1 .taken),
+      going-ready (s .pre .runnable) (l .inv .1) (i .if1 .taken),
       instruction-named (s .args .program .now) (s .pre .runnable .good) (l .machine .place) (i .if1 .taken),
     )
 
@@ -49,7 +49,7 @@ returns : tie.Need-returns Inv-loop μ-loop
 returns c =
     let d = c .before .before .before .before .before .before in
     let i = turning d in
-    going-stop (start-of i .pre .runnable) (i .before .before .loop .inv .1) _ _ _ (i .if1 .taken) (d .step .ensures) _ (c .before .turn .given .1)
+    going-stop (start-of i .pre .runnable) (i .before .before .loop .inv .1) _ _ (i .if1 .taken) (d .step .ensures) _ (c .before .turn .given .1)
 
 loop-less : tie.Need-loop-less Inv-loop μ-loop
 loop-less c =
@@ -58,14 +58,14 @@ loop-less c =
     omega (
       arith,
       i .if1 .taken,
-      going-forward (start-of i .pre .runnable) (i .before .before .loop .inv .1) _ _ _ (i .if1 .taken) (d .step .ensures) (c .enum-told .given .1),
+      going-forward (start-of i .pre .runnable) (i .before .before .loop .inv .1) _ _ (i .if1 .taken) (d .step .ensures) (c .enum-told .given .1),
     )
 
 loop-again : tie.Need-loop-again Inv-loop μ-loop
 loop-again c =
     let d = c .before .before .before .before .before in
     let i = turning d in
-    (refl, going-next (start-of i .pre .runnable) (i .before .before .loop .inv .1) _ _ _ (i .if1 .taken) (d .step .ensures) (c .enum-told .given .1))
+    (refl, going-next (start-of i .pre .runnable) (i .before .before .loop .inv .1) _ _ (i .if1 .taken) (d .step .ensures) (c .enum-told .given .1))
 
 same-length-2 : tie.Need-same-length-2 Inv-loop μ-loop
 same-length-2 c =

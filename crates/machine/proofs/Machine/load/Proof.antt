@@ -26,7 +26,7 @@ returns c =
     did-next (c .before .written .result) (written (a .self) (a .a) (getD (a .table .now) r 0)) (withRead l r)
     (load-fresh (a .table .now) (a .self) l r _ (q .register .ensures) (a .a) (p .before .before .if1 .taken)
     (sym (p .stored-place .ensures .0) ∙ d .before .before .if2 .taken))
-    (c .goes .ensures) (c .before .written .ensures) (d .note-read .ensures) (s .pre .0 .marked)
+    (c .goes .ensures) (c .before .written .ensures) (d .note-read .ensures)
 
 returns-2 : tie.Need-returns-2
 returns-2 c =
@@ -39,7 +39,7 @@ returns-2 c =
     did-next (c .before .written2 .result) (written (a .self) (a .a) (getD (a .slot .now) (firstValue + k - 1) 0)) l
     (load-own (a .table .now) (a .self) (a .slot .now) (s .pre .0 .holds) (q .register .result) _ (q .register .ensures) (a .a)
     (p .before .before .if1 .taken) k (p .stored-place .ensures .0) (c .before .before .before .if2 .left))
-    (c .goes2 .ensures) (c .before .written2 .ensures) (s .pre .0 .holds .is) (s .pre .0 .marked)
+    (c .goes2 .ensures) (c .before .written2 .ensures) (s .pre .0 .holds .is)
 
 returns-3 : tie.Need-returns-3
 returns-3 c =
@@ -47,7 +47,7 @@ returns-3 c =
     let s = start-of q in
     let a = s .args in
     did-stop _ (load-fault (a .table .now) (a .self) (logOf (a .slot .now)) (q .register .result) _ (q .register .ensures) (a .a) (c .before .if1 .left))
-    (c .faults .ensures) (s .pre .0 .holds .is) (s .pre .0 .marked)
+    (c .faults .ensures) (s .pre .0 .holds .is)
 
 pub load-spec : {M : Type 1} → statement M
 load-spec =

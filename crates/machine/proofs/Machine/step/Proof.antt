@@ -25,12 +25,12 @@ set-requires c κs =
 
 load-requires : tie.Need-load-requires
 load-requires c κs =
-    let s = start-of (c .before .before .before) in
+    let s = start-of (c .before .before) in
     (s .pre .0, s .pre .1 .first (omega arith) (omega arith), s .pre .1 .second (omega arith) (omega arith))
 
 store-requires : tie.Need-store-requires
 store-requires c κs =
-    let s = start-of (c .before .before .before) in
+    let s = start-of (c .before .before) in
     (s .pre .0, s .pre .1 .first (omega arith) (omega arith), s .pre .1 .second (omega arith) (omega arith))
 
 add-requires : tie.Need-add-requires
@@ -69,13 +69,13 @@ returns-3 : tie.Need-returns-3
 unfolding askOf
 returns-3 c =
     let d = c .before .before in
-    did-as (asks (start-of (d .before .before .before .before)) (d .before .before .before .match .keys3)) (d .load .ensures)
+    did-as (asks (start-of (d .before .before .before)) (d .before .before .match .keys3)) (d .load .ensures)
 
 returns-4 : tie.Need-returns-4
 unfolding askOf
 returns-4 c =
     let d = c .before .before in
-    did-as (asks (start-of (d .before .before .before .before)) (d .before .before .before .match .keys4)) (d .store .ensures)
+    did-as (asks (start-of (d .before .before .before)) (d .before .before .match .keys4)) (d .store .ensures)
 
 returns-5 : tie.Need-returns-5
 unfolding askOf

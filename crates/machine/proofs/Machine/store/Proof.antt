@@ -12,15 +12,15 @@ start-of q = q .before .before .before
 returns : tie.Need-returns
 returns c =
     let d = c .before .before .before .before in
-    let q = d .before .before .before .before .before in
+    let q = d .before .before .before .before in
     let s = start-of q in
     let a = s .args in
     let l = logOf (a .slot .now) in
     let r = q .register .result in
     let w = d .before .register2 .result in
     did-next (c .before .passed .result) (passed (a .self)) (withStore l r w)
-    (store-within (a .table .now) (a .self) l r _ (q .register .ensures) _ w (d .before .register2 .ensures) (d .before .before .before .before .if1 .taken))
-    (c .goes .ensures) (c .before .passed .ensures) (d .note-store .ensures .0) (d .note-store .ensures .1)
+    (store-within (a .table .now) (a .self) l r _ (q .register .ensures) _ w (d .before .register2 .ensures) (d .before .before .before .if1 .taken))
+    (c .goes .ensures) (c .before .passed .ensures) (d .note-store .ensures)
 
 returns-2 : tie.Need-returns-2
 returns-2 c =
@@ -28,7 +28,7 @@ returns-2 c =
     let s = start-of q in
     let a = s .args in
     did-stop _ (store-fault (a .table .now) (a .self) (logOf (a .slot .now)) (q .register .result) _ (q .register .ensures) _ (c .before .if1 .left))
-    (c .faults .ensures) (s .pre .0 .holds .is) (s .pre .0 .marked)
+    (c .faults .ensures) (s .pre .0 .holds .is)
 
 pub store-spec : {M : Type 1} → statement M
 store-spec =
