@@ -4,8 +4,12 @@ use crate::scenarios::{carried_programs, gathered_programs, Scenario, Sheet, Sta
 use crate::scenarios::{GATHER, IMAGE_OF, NEXT_IMAGE, OPEN, ORDER, SETTLE, SHEET_OF, WHY};
 use archive::{bytes, words, Archive, Measure};
 use plain::image::{LONGEST, PROGRAMS};
-use plain::refusal::DONE;
+use plain::refusal::{DONE, STATE};
 use plain::{sheet, Refusal};
+
+/// The place in `CALLS` of a gathering's run alone. A program that is gathered again is refused 9 after all
+/// checks; what the gathering took beyond that is its run.
+const RUN: usize = GATHER + 1;
 
 /// Makes the calls, and notes the place in `CALLS` and the measure of each. Of the calls that are
 /// made once for each program, or for each carried one, only one in so many is measured.
@@ -19,8 +23,7 @@ pub fn run(
     let (image, table) = (&mut bytes(&scenario.image), &mut words(&scenario.table));
     let (fresh, out) = (&mut bytes(&scenario.fresh), &mut bytes(&[0; LONGEST]));
     let (area, list) = (&mut words(&scenario.first_area()), &mut words(&[0; PROGRAMS]));
-    let mut done = |call: usize, refusal: Refusal, measured: Option<u64>| {
-        assert_eq!(refusal, DONE, "no call of a scenario is refused");
+    let mut noted = |call: usize, measured: Option<u64>| {
         if let Some(measured) = measured {
             note(call, measured);
         }
@@ -29,29 +32,39 @@ pub fn run(
 
     archive.measure = measure;
     if let Start::Opening = scenario.start {
-        let refusal = archive.open(image, table, area);
-        done(OPEN, refusal, archive.measured);
+        done(archive.open(image, table, area));
+        noted(OPEN, archive.measured);
         for number in 0..scenario.programs {
             archive.measure = chosen(number);
-            let step = archive.gather(image, table, area, number);
-            done(GATHER, step.refusal, archive.measured);
+            done(archive.gather(image, table, area, number).refusal);
+            let gathering = archive.measured;
+            noted(GATHER, gathering);
+            if let (Measure::Instructions, Some(gathering)) = (archive.measure, gathering) {
+                let again = archive.gather(image, table, area, number);
+                assert_eq!(again.refusal, STATE, "a program is gathered once");
+                noted(RUN, archive.measured.map(|checks| gathering - checks));
+            }
         }
         for (place, number) in gathered_programs(area.lent(), table.lent().len()).into_iter().enumerate() {
             archive.measure = chosen(place);
-            let step = archive.settle(image, table, area, number);
-            done(SETTLE, step.refusal, archive.measured);
+            done(archive.settle(image, table, area, number).refusal);
+            noted(SETTLE, archive.measured);
         }
         for (place, number) in carried_programs(area.lent(), table.lent().len()).into_iter().enumerate() {
             archive.measure = chosen(place);
-            let cause = archive.why(image, table, area, number);
-            done(WHY, cause.refusal, archive.measured);
+            done(archive.why(image, table, area, number).refusal);
+            noted(WHY, archive.measured);
         }
     }
     archive.measure = measure;
-    let count = archive.order(image, table, area, list);
-    done(ORDER, count.refusal, archive.measured);
-    let count = archive.next_image(image, table, area, fresh, out);
-    done(NEXT_IMAGE, count.refusal, archive.measured);
+    done(archive.order(image, table, area, list).refusal);
+    noted(ORDER, archive.measured);
+    done(archive.next_image(image, table, area, fresh, out).refusal);
+    noted(NEXT_IMAGE, archive.measured);
+}
+
+fn done(refusal: Refusal) {
+    assert_eq!(refusal, DONE, "no call of a scenario is refused");
 }
 
 /// Reads a sheet and writes that of its image, and notes the place in `CALLS` and the measure of each.

@@ -1,7 +1,7 @@
-//! What the benchmarks run: a full batch, a typical one, and a hostile one for the order; the longest
-//! sheet, and hostile ones.
+//! What the benchmarks run: a full batch, a typical one, two that look through many stores, and a
+//! hostile one for the order; the longest sheet, and hostile ones.
 
-use material::assembler::{self, Instruction};
+use material::assembler::{self, load, set, store, Instruction, R0, R1, R2};
 use material::random::{self, Random, Shape};
 use material::sheets;
 use plain::area::{words, CARRIED, CELLS, COMMITTED, GATHERED};
@@ -10,17 +10,17 @@ use plain::image::{INSTRUCTIONS, PROGRAMS};
 use plain::refusal::{DONE, LINE};
 use plain::Refusal;
 
-/// The calls that are measured.
-pub const CALLS: [&str; 8] =
-    ["open", "gather", "settle", "why", "order", "next_image", "image_of", "sheet_of"];
+/// What is measured: the calls, and behind gathering its run alone, which only the counting tells.
+pub const CALLS: [&str; 9] =
+    ["open", "gather", "its run", "settle", "why", "order", "next_image", "image_of", "sheet_of"];
 pub const OPEN: usize = 0;
 pub const GATHER: usize = 1;
-pub const SETTLE: usize = 2;
-pub const WHY: usize = 3;
-pub const ORDER: usize = 4;
-pub const NEXT_IMAGE: usize = 5;
-pub const IMAGE_OF: usize = 6;
-pub const SHEET_OF: usize = 7;
+pub const SETTLE: usize = 3;
+pub const WHY: usize = 4;
+pub const ORDER: usize = 5;
+pub const NEXT_IMAGE: usize = 6;
+pub const IMAGE_OF: usize = 7;
+pub const SHEET_OF: usize = 8;
 
 pub struct Scenario {
     pub name: &'static str,
@@ -78,7 +78,7 @@ pub fn sheets(bytes: usize) -> Vec<Sheet> {
 }
 
 pub fn all() -> Vec<Scenario> {
-    vec![full(), typical(), hostile()]
+    vec![full(), typical(), oldest(), by_turns(), hostile()]
 }
 
 /// The numbers of the programs that are to be settled.
@@ -127,6 +127,35 @@ fn whole_programs(random: &mut Random, shape: Shape, table: &[u32], count: usize
         }
     }
     programs
+}
+
+/// How many cells a program stores that then loads the first of them. Each new cell number takes an
+/// instruction, so that of 32 there are 11 left for loads, and with more or fewer cells a run
+/// would look through fewer stores in all.
+const STORED: usize = 11;
+
+/// Loads of the oldest store: each goes through all of them.
+fn oldest() -> Scenario {
+    let mut program = vec![store(R0, R0)];
+    program.extend((1..STORED).flat_map(|cell| [set(R1, cell as u16), store(R1, R1)]));
+    program.resize(INSTRUCTIONS, load(R2, R0));
+    alike("Loads of the oldest: 64 programs that store 11 cells, then load the first 11 times", program)
+}
+
+/// Each load gives the number of the cell that is loaded next, and then the cell that was loaded is
+/// stored: all 32 instructions look through all stores before them.
+fn by_turns() -> Scenario {
+    let turns = [load(R1, R0), store(R0, R0), load(R0, R1), store(R1, R1)];
+    let program = turns.into_iter().cycle().take(INSTRUCTIONS).collect();
+    alike("Loads and stores by turns: 64 programs that load 16 cells and store each after its load", program)
+}
+
+/// 64 times the same program, on a table in which each cell holds the number of the next.
+fn alike(name: &'static str, program: Vec<Instruction>) -> Scenario {
+    let table = (1..=CELLS as u32).collect();
+    let image = assembler::image(2, &vec![program; PROGRAMS]);
+    let fresh = assembler::image(2, &[]);
+    Scenario { name, programs: PROGRAMS, image, table, fresh, start: Start::Opening }
 }
 
 /// 64 committed programs with 32 reads and 32 stores each. Program i+1 reads, last of all, the cell

@@ -1,50 +1,75 @@
-//! The deepest stack of each call in bytes, over all scenarios.
+//! The deepest stack of each call in bytes, over the inputs that take the most of it.
 //! Usage: stack DRIVER.., the command that runs the archive's driver.
 
+mod bad;
 mod driven;
 mod scenarios;
 
 use archive::{bytes, Archive, Measure};
-use scenarios::{Scenario, CALLS};
+use material::assembler::{self, reject};
+use plain::refusal::DONE;
+use plain::sheet;
+use scenarios::{Scenario, CALLS, SHEET_OF};
 
-/// The calls that need only the image.
-const IMAGE_CALLS: [&str; 2] = ["program", "program_refusal"];
+/// The calls, in the order of the header's table.
+const NAMES: [&str; 10] = [
+    "program",
+    "program_refusal",
+    "open",
+    "gather",
+    "settle",
+    "why",
+    "order",
+    "next_image",
+    "image_of",
+    "sheet_of",
+];
 
 /// The bytes of a hostile sheet.
 const HOSTILE: usize = 1 << 20;
 
-/// The deepest stack of those, over all programs of a scenario.
-fn image_calls(archive: &mut Archive, scenario: &Scenario) -> [u64; IMAGE_CALLS.len()] {
+/// The calls that need only the image, on all programs of a scenario.
+fn image_calls(archive: &mut Archive, scenario: &Scenario, mut note: impl FnMut(&'static str, u64)) {
     let image = &mut bytes(&scenario.image);
-    let mut deepest = [0; IMAGE_CALLS.len()];
     archive.measure = Measure::Stack;
     for number in 0..scenario.programs {
         archive.program(image, number);
-        deepest[0] = deepest[0].max(archive.measured.unwrap_or(0));
-        archive.program_refusal(image, number);
-        deepest[1] = deepest[1].max(archive.measured.unwrap_or(0));
+        note("program", archive.measured.unwrap_or(0));
+        assert_eq!(archive.program_refusal(image, number), DONE);
+        note("program_refusal", archive.measured.unwrap_or(0));
     }
-    deepest
+}
+
+/// The sheet of a number with three digits, the most that a byte has: each digit is written below the one
+/// behind it.
+fn three_digits(archive: &mut Archive, mut note: impl FnMut(&'static str, u64)) {
+    let image = &mut bytes(&assembler::image(2, &[vec![reject(255)]]));
+    let out = &mut bytes(&[0; sheet::LONGEST]);
+    archive.measure = Measure::Stack;
+    assert_eq!(archive.sheet_of(image, out).refusal, DONE);
+    note(CALLS[SHEET_OF], archive.measured.unwrap_or(0));
 }
 
 fn main() {
     let driver: Vec<String> = std::env::args().skip(1).collect();
-    let mut archive = Archive::start(&driver);
-    let mut deepest = [0; CALLS.len()];
-    let mut deepest_of_image = [0; IMAGE_CALLS.len()];
+    let archive = &mut Archive::start(&driver);
+    let mut deepest = [0; NAMES.len()];
+    let mut note = |call: &'static str, bytes: u64| {
+        let place = NAMES.iter().position(|&name| name == call).expect("the name of a call");
+        deepest[place] = bytes.max(deepest[place]);
+    };
     for scenario in scenarios::all() {
-        let note = |call: usize, bytes: u64| deepest[call] = bytes.max(deepest[call]);
-        driven::run(&mut archive, &scenario, Measure::Stack, 1, note);
-        let image_calls = image_calls(&mut archive, &scenario);
-        deepest_of_image = std::array::from_fn(|call| image_calls[call].max(deepest_of_image[call]));
+        image_calls(archive, &scenario, &mut note);
+        driven::run(archive, &scenario, Measure::Stack, 1, |call, bytes| note(CALLS[call], bytes));
     }
     for scenario in scenarios::sheets(HOSTILE) {
-        let note = |call: usize, bytes: u64| deepest[call] = bytes.max(deepest[call]);
-        driven::run_sheet(&mut archive, &scenario, Measure::Stack, note);
+        driven::run_sheet(archive, &scenario, Measure::Stack, |call, bytes| note(CALLS[call], bytes));
     }
-    println!("Deepest stack of each call in bytes, over all scenarios, found by painting the stack first:");
-    println!("from the caller's frame down, the return address included.");
-    for (name, bytes) in IMAGE_CALLS.iter().zip(deepest_of_image).chain(CALLS.iter().zip(deepest)) {
+    three_digits(archive, &mut note);
+    bad::run(archive, &mut note);
+    println!("Deepest stack of each call in bytes, with the inputs that take most, found by painting it:");
+    println!("from the caller's frame down, arguments that lie there and the return address included.");
+    for (name, bytes) in NAMES.iter().zip(deepest) {
         println!("{name:<16}{bytes:>6}");
     }
 }

@@ -34,11 +34,14 @@
  * changes the area; but boards with tables and areas of their own can share one image.
  *
  * What it needs. The archive is x86-64 code today, for the System V calling convention. From
- * outside it needs two functions, memcpy and memset. The deepest stack of each call in bytes, from
- * the caller's frame down, as bench/run measures it on x86-64:
+ * outside it needs two functions, memcpy and memset. A call takes at most so many bytes of stack,
+ * from the caller's frame down, with the arguments that lie there and the return address:
  *
  *     program   program_refusal   open   gather   settle   why   order   next_image   image_of   sheet_of
- *         136               120    152      760      232   232     984          248        380        272
+ *         202               186    218      570      298   298    1050          314        380        336
+ *
+ * bench/run measures it, on x86-64, with the inputs that take the most, and tests/needs holds this
+ * table to it.
  *
  * Refusals. Every call may be lent anything: it checks first, in the order of the rows below (the
  * next image: 1 to 3, 41 to 44, 5 to 7, 9, 21 to 23, 61 to 64, 11, 10; the image of a sheet: 51, 2,
