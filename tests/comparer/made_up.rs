@@ -1,7 +1,8 @@
 //! Made-up memory: tables and images of many sizes, and areas that no call made but that pass
 //! check 7, knots among them.
 
-use material::assembler;
+use material::assembler::{self, load, set, store, R0};
+use material::case::Program;
 use material::random::{self, Random, Shape};
 use plain::area::{self, CARRIED, CELLS, COMMITTED, GATHERED, REJECTED, WAITING};
 use plain::area::{DETAIL, READS, READ_COUNT, SLOT_WORDS, STATE, STORES, STORE_COUNT};
@@ -32,10 +33,24 @@ pub fn programs(random: &mut Random) -> usize {
 
 /// A good image of so many programs, for a table of so many cells.
 pub fn image(random: &mut Random, cells: usize, programs: usize) -> Vec<u8> {
+    let rule = random.below(3) as u8;
+    if random.percent(10) {
+        let programs: Vec<Program> = (0..programs).map(|_| many_stores(random, cells)).collect();
+        return assembler::image(rule, &programs);
+    }
     let instructions = if random.percent(10) { INSTRUCTIONS } else { random.between(1, 12) };
     let shape = Shape { cells, busy_cells: random.between(1, cells), programs, instructions };
-    let rule = random.below(3) as u8;
     assembler::image(rule, &random::programs(random, shape))
+}
+
+/// A program that goes 16 times to one of a few cells, mostly to store it: so it comes back to what it
+/// has stored just now, and to what it has stored long ago.
+fn many_stores(random: &mut Random, cells: usize) -> Program {
+    let turn = |_| {
+        let (cell, value) = (random.below(cells.min(16)) as u16, random.between(1, 7) as u8);
+        [set(R0, cell), if random.percent(70) { store(R0, value) } else { load(value, R0) }]
+    };
+    (0..INSTRUCTIONS / 2).flat_map(turn).collect()
 }
 
 /// Words that say nothing.
