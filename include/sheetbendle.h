@@ -41,7 +41,7 @@
  *         202               186    218      570      298   298    1050          314        380        336
  *
  * bench/run measures it, on x86-64, with the inputs that take the most, and tests/needs holds this
- * table to it.
+ * table to it. Where memcpy and memset are called, 100 of these bytes are left for their own.
  *
  * Refusals. Every call may be lent anything: it checks first, in the order of the rows below (the
  * next image: 1 to 3, 41 to 44, 5 to 7, 9, 21 to 23, 61 to 64, 11, 10; the image of a sheet: 51, 2,
