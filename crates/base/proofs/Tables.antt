@@ -2,11 +2,12 @@
 use mathlib.Core.Path.{_≡_, refl, sym, _∙_}
 use mathlib.Core.Logic.{_⊎_, inl, inr}
 use mathlib.Core.List.{List, [], _∷_, _++_}
-use Prim.Native.Nat.{ℕ, zero, suc, _<_}
+use Prim.Native.Nat.{ℕ, zero, suc, _+_, _<_}
 use native.Mathlib.Nat.{not-suc-le-zero}
 use native.Mathlib.Omega.{arith}
-use lib.ListN.{length, getD, length-append, List·getD-append}
-use lib.Seq.{ext-getD, getD-at}
+use lib.ListN.{length, getD, set, length-append, List·getD-append}
+use lib.Seq.{ext-getD, getD-at, getD-set-same, getD-set-other}
+use borrow.Author.Count.{below-more}
 use Rattle.base.specs.Words.{tabulate}
 use Rattle.base.proofs.Numbers.{below}
 
@@ -32,3 +33,9 @@ tabulate-is f n xs e h =
 
 pub tabulate-ext : (f g : ℕ → ℕ) (n : ℕ) → ((i : ℕ) → i < n → f i ≡ g i) → tabulate f n ≡ tabulate g n
 tabulate-ext f g n h = tabulate-is g n (tabulate f n) (tabulate-length f n) (λ i l. tabulate-at f n i l ∙ h i l)
+
+-- a list that is filled from the front: one place more
+pub table-more : (f : ℕ → ℕ) (t : List ℕ) (c v : ℕ) → c < length t → v ≡ f c → ((i : ℕ) → i < c → getD t i 0 ≡ f i) → (i : ℕ) → i < c + 1
+    → getD (set t c v) i 0 ≡ f i
+table-more f t c v l e h =
+    below-more (λ i. getD (set t c v) i 0 ≡ f i) c (λ i k. getD-set-other t c i v 0 (λ z. omega arith) ∙ h i k) (getD-set-same t c v 0 l ∙ e)
