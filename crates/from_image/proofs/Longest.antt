@@ -3,14 +3,13 @@
 use mathlib.Core.Path.{_≡_, refl, sym, ap, _∙_}
 use mathlib.Core.Logic.{_⊎_, inl, inr}
 use mathlib.Core.Bool.{Bool, true, false, _&&_}
-use mathlib.Core.List.{List, [], _∷_}
+use mathlib.Core.List.{List}
 use Prim.Native.Nat.{ℕ, zero, suc, _+_, _*_, _≤_, _<_, min}
 use native.Mathlib.Omega.{arith}
 use lib.Dec.{ltb, leb}
-use lib.ListN.{length, getD, take, drop, length-append}
-use lib.Seq.{getD-drop}
+use lib.ListN.{length, getD, length-append}
 use borrow.Author.Tests.{ltb-true, ltb-false, leb-true, le-leb, eqb-true, eqb-false}
-use Rattle.base.specs.Words.{every, words}
+use Rattle.base.specs.Words.{every}
 use Rattle.base.proofs.Bools.{and-both}
 use Rattle.base.proofs.Bools as bools
 use Rattle.base.proofs.Numbers.{every-at}
@@ -20,11 +19,11 @@ use Rattle.text.proofs.Decimals.{length-small, byte-short, pair-short}
 use Rattle.text.proofs.Fillings.{texts-short}
 use Rattle.image.specs.Limits.{maxInstructions, registers}
 use Rattle.image.specs.Instruction.{Kind, register, unused, skip, free, rows, known, kindsOf, registerGood, unusedGood, skipGood, instructionsOf}
-use Rattle.image.specs.Image.{countOf, ruleByte, offsetOf, bytesOf, partOf, refusalOf}
+use Rattle.image.specs.Image.{countOf, ruleByte, partOf, refusalOf}
 use Rattle.image.specs.Refusals as refusal
 use Rattle.image.specs.Refusals.{passes}
 use Rattle.image.proofs.Faults.{GoodBytes, good-at}
-use Rattle.image.proofs.Laws.{accepted, refusal-well}
+use Rattle.image.proofs.Laws.{accepted, refusal-well, part-bytes}
 use Rattle.image.proofs.Places.{none-is}
 use Rattle.image.proofs.Refusing.{none-after, goes-on, first-refuses, first-passes, unless-either}
 use Rattle.sheet.specs.declared.Written.the-variants.{Refused}
@@ -125,25 +124,14 @@ module _ (program : List ℕ) (bytes : (i : ℕ) → getD program i 0 < 256) (go
 
 -- ---- the programs of an image
 
--- the members of a part are members of the whole, or 0
-take-small : (most n : ℕ) (xs : List ℕ) → 0 < most → ((i : ℕ) → getD xs i 0 < most) → (i : ℕ) → getD (take n xs) i 0 < most
-take-small most zero xs p h i = p
-take-small most (suc n) [] p h i = p
-take-small most (suc n) (x ∷ xs) p h zero = h 0
-take-small most (suc n) (x ∷ xs) p h (suc i) = take-small most n xs p (λ j. h (suc j)) i
-
 module _ (image : List ℕ) (bytes : (i : ℕ) → getD image i 0 < 256) where
-  part-bytes : (k i : ℕ) → getD (partOf image k) i 0 < 256
-  unfolding partOf words
-  part-bytes k = take-small 256 (bytesOf image k) (drop (offsetOf image k) image) (omega arith) (λ i. rw getD-drop (bytes (offsetOf image k + i)))
-
   -- "for every accepted image": its sheet has at most so many bytes
   pub sheet-short : refusalOf image .number ≡ 0 → length (sheetOfImage image) ≤ longestSheet
   unfolding longestSheet
   sheet-short none =
       let p = good-programs image refl none in
       let n = countOf image in
-      let t = texts-short (programText image) n longestProgram (λ k l. program-short (partOf image k) (part-bytes k) (p .good k l)) in
+      let t = texts-short (programText image) n longestProgram (λ k l. program-short (partOf image k) (part-bytes image bytes k) (p .good k l)) in
       let rule = length-small (ruleByte image) (omega (arith, small-rule image (accepted image none))) in
       omega (arith, length-sheet-of image refl refl, ap length (programs-texts image n), t, rule, p .few)
 

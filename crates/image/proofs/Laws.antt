@@ -1,14 +1,15 @@
 -- Laws of the image's definitions: callers cite these and do not unfold. Assumes nothing.
 use mathlib.Core.Path.{_≡_, refl, sym, ap, _∙_}
 use mathlib.Core.Bool.{true, false, _&&_}
-use mathlib.Core.List.{List, []}
+use mathlib.Core.List.{List, [], _∷_}
 use Prim.Native.Nat.{ℕ, zero, suc, _+_, _-_, _%_, _≤_, _<_}
 use native.Mathlib.Nat.{add-zero, le-refl, le-trans, le-of-lt}
 use native.Mathlib.Omega.{arith}
 use borrow.Author.Tests.{leb-true, ltb-true, eqb-true, eq-eqb}
-use lib.ListN.{length}
+use lib.ListN.{length, getD, take, drop}
+use lib.Seq.{getD-drop}
 use lib.Dec.{leb, ltb, eqb}
-use Rattle.base.specs.Words.{every}
+use Rattle.base.specs.Words.{every, words}
 use Rattle.base.proofs.Bools.{and-left, and-both}
 use Rattle.base.proofs.Numbers.{every-at, every-false}
 use Rattle.base.proofs.Parts.{words-length}
@@ -75,6 +76,19 @@ module _ (image : List ℕ) (good : offsetsGood image ≡ true) where
 
   pub part-whole : (p : ℕ) → p < countOf image → length (partOf image p) % instructionBytes ≡ 0
   part-whole p l = rw (lies-length image p (lies p l)) (extent p l .1)
+
+-- the members of a part are members of the whole, or 0
+take-small : (most n : ℕ) (xs : List ℕ) → 0 < most → ((i : ℕ) → getD xs i 0 < most) → (i : ℕ) → getD (take n xs) i 0 < most
+take-small most zero xs p h i = p
+take-small most (suc n) [] p h i = p
+take-small most (suc n) (x ∷ xs) p h zero = h 0
+take-small most (suc n) (x ∷ xs) p h (suc i) = take-small most n xs p (λ j. h (suc j)) i
+
+-- a program of an image that is bytes is bytes
+pub part-bytes : (image : List ℕ) → ((i : ℕ) → getD image i 0 < 256) → (k i : ℕ) → getD (partOf image k) i 0 < 256
+unfolding partOf words
+part-bytes image bytes k =
+    take-small 256 (bytesOf image k) (drop (offsetOf image k) image) (omega arith) (λ i. rw getD-drop (bytes (offsetOf image k + i)))
 
 -- ---- check 4: the first bad instruction, with its fault and its place
 

@@ -56,6 +56,10 @@ notCarried = refusing 13
 abbrev pub reason : Refusal
 reason = refusing 15
 
+-- document 02, ask 5
+abbrev pub guards : Refusal
+guards = refusing 14
+
 -- document 02, ask 1
 abbrev pub line : Refusal
 line = refusing 51

@@ -73,7 +73,7 @@ pub struct Refusal {
 }
 
 // The byte at a place, 0 past the end.
-fn byte_at(bytes: &[u8], at: usize) -> u8
+pub fn byte_at(bytes: &[u8], at: usize) -> u8
     ensures { λ r. ⌜ r ≡ byteAt (now (bytes .entry)) at ⌝ }
 {
     if at < bytes.len() { bytes[at] } else { 0 }

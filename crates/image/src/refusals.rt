@@ -80,6 +80,12 @@ impl Refusal {
         instruction: 0,
     };
 
+    pub const GUARDS: Refusal = Refusal {
+        number: 14,
+        program: 0,
+        instruction: 0,
+    };
+
     pub const REASON: Refusal = Refusal {
         number: 15,
         program: 0,

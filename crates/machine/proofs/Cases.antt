@@ -5,6 +5,7 @@ use mathlib.Core.List.{List, [], _∷_, _++_, map}
 use mathlib.Core.Path.{_≡_, refl}
 use lib.ListN.{replicate}
 use Rattle.image.specs.Assembler.{Instruction, end, set, load, store, sub, skipless, skipequal, reject, program}
+use Rattle.guard.specs.Guards.{fullFor}
 use Rattle.slot.specs.Log.{Log}
 use Rattle.machine.specs.declared.Run.{Run}
 use Rattle.machine.specs.declared.Run.the-variants.{Finished, Rejected, Faulted}
@@ -13,13 +14,20 @@ use Rattle.machine.specs.Opened.{opened}
 
 -- ---- how a case is written
 
--- the run of these instructions on a table
-abbrev run : List Instruction → List ℕ → Outcome
-run instructions table = runOf (program instructions) table
+-- the run of these instructions on a table, where no guard is in its way
+abbrev outcome : List Instruction → List ℕ → Outcome
+outcome instructions table = runOf (program instructions) table (fullFor table)
+
+-- how it ended, its log, the places that it visited, the values that it loaded
+data Ran : Type 0 where
+  ran : Run → Log → List ℕ → List ℕ → Ran
+
+abbrev run : List Instruction → List ℕ → Ran
+run instructions table = let o = outcome instructions table in ran (o .answer) (o .log) (o .path) (o .loads)
 
 -- the slot that it leaves
 abbrev slot : List Instruction → List ℕ → List ℕ
-slot instructions table = slotOf (run instructions table)
+slot instructions table = slotOf (outcome instructions table)
 
 -- these reads, stored cells and values
 abbrev log : List ℕ → List ℕ → List ℕ → Log
@@ -27,10 +35,6 @@ log reads cells values = record { reads = reads; cells = cells; values = values 
 
 abbrev none : Log
 none = log [] [] []
-
--- how it ended, its log, the places that it visited, the values that it loaded
-abbrev ran : Run → Log → List ℕ → List ℕ → Outcome
-ran answer log path loads = record { answer = answer; log = log; path = path; loads = loads }
 
 -- a table of so many cells that all hold 5
 abbrev fives : ℕ → List ℕ

@@ -20,7 +20,8 @@ use Rattle.machine.specs.declared.Turn.the-variants.{Next, Stop}
 use Rattle.machine.specs.declared.Run.{Run}
 use Rattle.machine.specs.declared.Run.the-variants.{Finished}
 use Rattle.machine.specs.Asks.{Ask, move, start, askOf, askAt}
-use Rattle.machine.specs.Runs.{Effect, stop, next, perform, Outcome, ended, since, seen, follow, runFrom, runOf, Runnable, Ready, Did, logAfter, turned}
+use Rattle.machine.specs.Runs.{Effect, stop, next, Judge, perform, Outcome, ended, since, seen, follow, runFrom, runBy, logAfter, turned}
+use Rattle.machine.specs.Runs.{Runnable, Ready, Did, Ends}
 use Rattle.machine.proofs.Named.{first-byte}
 use Rattle.machine.proofs.Asked.{ask-forward}
 use Rattle.machine.proofs.Laws.{by-ask, turn-fits}
@@ -37,9 +38,9 @@ answer-next m (stop r l) e = let z : _≡_ {A = ℕ} 0 1 = cc in absurd (omega a
 answer-next m (next m′ l) e = refl
 
 -- a turn that goes on goes forward
-turn-forward : (p t : List ℕ) (m : Machine) (l : Log) (m′ : Machine) (l′ : Log) → perform t m l (askAt p m) ≡ next m′ l′ → m .place < m′ .place
-turn-forward p t m l m′ l′ =
-    by-ask t m l (λ s. s ≡ next m′ l′ → m .place < m′ .place) (askAt p m) (λ r e. let z : _≡_ {A = ℕ} 0 1 = cc in absurd (omega arith))
+turn-forward : (may : Judge) (p t : List ℕ) (m : Machine) (l : Log) (m′ : Machine) (l′ : Log) → perform may t m l (askAt p m) ≡ next m′ l′ → m .place < m′ .place
+turn-forward may p t m l m′ l′ =
+    by-ask may t m l (λ s. s ≡ next m′ l′ → m .place < m′ .place) (askAt p m) (λ r e. let z : _≡_ {A = ℕ} 0 1 = cc in absurd (omega arith))
     (λ n q e. let r : n ≡ m′ = cc in rw (← r) (moved n q)) (λ a c h e. onward _ _ e) (λ c v q h e. onward _ _ e)
   where
     moved : (n : Machine) → askAt p m ≡ move n → m .place < n .place
@@ -58,7 +59,7 @@ ask-read p m = rw (first-byte p (m .place))
 
 -- ---- the invariant
 
-pub record Going (p t : List ℕ) (m : Machine) (slot : List ℕ) : Type 0 where
+pub record Going (may : Judge) (p t : List ℕ) (m : Machine) (slot : List ℕ) : Type 0 where
   -- so many turns can be left, and so many are behind
   pub fuel : ℕ
   pub used : ℕ
@@ -68,12 +69,13 @@ pub record Going (p t : List ℕ) (m : Machine) (slot : List ℕ) : Type 0 where
   pub budget : used + fuel ≤ listWords
   pub room : Room used log
   pub fitting : Fits (length t) log
-  pub same-answer : runOf p t .answer ≡ runFrom fuel p t m log .answer
-  pub same-log : runOf p t .log ≡ runFrom fuel p t m log .log
+  pub same-answer : runBy may p t .answer ≡ runFrom may fuel p t m log .answer
+  pub same-log : runBy may p t .log ≡ runFrom may fuel p t m log .log
+  pub same-last : runBy may p t .last ≡ runFrom may fuel p t m log .last
 
-pub going-start : (p t : List ℕ) → Runnable p → (m : Machine) (slot : List ℕ) → m ≡ start → slot ≡ replicate slotWords 0 → Going p t m slot
-unfolding runOf
-going-start p t runs m slot at e =
+pub going-start : (may : Judge) (p t : List ℕ) → Runnable p → (m : Machine) (slot : List ℕ) → m ≡ start → slot ≡ replicate slotWords 0 → Going may p t m slot
+unfolding runBy
+going-start may p t runs m slot at e =
     record {
       fuel = instructionsOf p;
       used = 0;
@@ -85,9 +87,10 @@ going-start p t runs m slot at e =
       fitting = empty-fits (length t);
       same-answer = rw at;
       same-log = rw at;
+      same-last = rw at;
     }
 
-module _ {p t : List ℕ} {m : Machine} {slot : List ℕ} (runs : Runnable p) (g : Going p t m slot) where
+module _ {may : Judge} {p t : List ℕ} {m : Machine} {slot : List ℕ} (runs : Runnable p) (g : Going may p t m slot) where
   log-is : logOf slot ≡ g .log
   log-is = ap logOf (g .is) ∙ layout-log waiting 0 (g .log) (length t) (g .fitting)
 
@@ -111,60 +114,69 @@ module _ {p t : List ℕ} {m : Machine} {slot : List ℕ} (runs : Runnable p) (g
   going-ready u = record { within = omega (arith, runs .short); holds = going-holds u }
 
   -- past the last instruction the run has finished
-  end-from : (n : ℕ) (l : Log) → instructionsOf p ≤ m .place → runFrom n p t m l ≡ ended l
+  end-from : (n : ℕ) (l : Log) → instructionsOf p ≤ m .place → runFrom may n p t m l ≡ ended m l
   unfolding runFrom
   end-from zero l h = refl
   end-from (suc n) l h = rw (le-ltb (m .place) (instructionsOf p) h)
 
-  pub going-end : instructionsOf p ≤ m .place → (Finished ≡ runOf p t .answer) × (slot ≡ layout waiting 0 (runOf p t .log))
+  pub going-end : instructionsOf p ≤ m .place → Ends (runBy may p t) (record { run = Finished; machine = m }) slot
   going-end h =
-      let e = end-from (g .fuel) (g .log) h in (
-        sym (g .same-answer ∙ ap (λ (o : Outcome). o .answer) e),
-        g .is ∙ ap (layout waiting 0) (sym (g .same-log ∙ ap (λ (o : Outcome). o .log) e)),
-      )
+      let e = end-from (g .fuel) (g .log) h in
+      record {
+        answered = sym (g .same-answer ∙ ap (λ (o : Outcome). o .answer) e);
+        at-end = sym (g .same-last ∙ ap (λ (o : Outcome). o .last) e);
+        logged = g .is ∙ ap (layout waiting 0) (sym (g .same-log ∙ ap (λ (o : Outcome). o .log) e));
+      }
 
   -- one turn of the definition
   turn-from : (n : ℕ) (l : Log) → m .place < instructionsOf p
-      → runFrom (suc n) p t m l ≡ since (m .place) (seen t l (askAt p m)) (follow (runFrom n p t) (perform t m l (askAt p m)))
+      → runFrom may (suc n) p t m l ≡ since (m .place) (seen t l (askAt p m)) (follow m (runFrom may n p t) (perform may t m l (askAt p m)))
   unfolding runFrom
   turn-from n l h = rw (lt-ltb (m .place) (instructionsOf p) h)
 
   -- what is left after the turn: n turns, from the step that was taken
   record Left (n : ℕ) (s : Effect) : Type 0 where
     pub one-less : g .fuel ≡ suc n
-    pub left-answer : runOf p t .answer ≡ follow (runFrom n p t) s .answer
-    pub left-log : runOf p t .log ≡ follow (runFrom n p t) s .log
+    pub left-answer : runBy may p t .answer ≡ follow m (runFrom may n p t) s .answer
+    pub left-log : runBy may p t .log ≡ follow m (runFrom may n p t) s .log
+    pub left-last : runBy may p t .last ≡ follow m (runFrom may n p t) s .last
 
-  turn-left : m .place < instructionsOf p → (n : ℕ) × Left n (perform t m (g .log) (askAt p m))
+  turn-left : m .place < instructionsOf p → (n : ℕ) × Left n (perform may t m (g .log) (askAt p m))
   turn-left h = go (g .fuel) refl
     where
-      go : (k : ℕ) → g .fuel ≡ k → (n : ℕ) × Left n (perform t m (g .log) (askAt p m))
+      go : (k : ℕ) → g .fuel ≡ k → (n : ℕ) × Left n (perform may t m (g .log) (askAt p m))
       go zero e = absurd (omega (arith, g .enough))
       go (suc n) e =
-          let q = ap (λ (k : ℕ). runFrom k p t m (g .log)) e ∙ turn-from n (g .log) h in (
+          let q = ap (λ (k : ℕ). runFrom may k p t m (g .log)) e ∙ turn-from n (g .log) h in (
             n,
             record {
               one-less = e;
               left-answer = g .same-answer ∙ ap (λ (o : Outcome). o .answer) q;
               left-log = g .same-log ∙ ap (λ (o : Outcome). o .log) q;
+              left-last = g .same-last ∙ ap (λ (o : Outcome). o .last) q;
             },
           )
 
-  module _ (r : Turned) (slot′ : List ℕ) (u : m .place < instructionsOf p) (d : Did t m (logOf slot) (askRead p m) r slot′) where
-    did-is : Did t m (g .log) (askAt p m) r slot′
-    did-is = rw log-is at (did-as (ask-read p m) d)
+  module _ (r : Turned) (slot′ : List ℕ) (u : m .place < instructionsOf p) (d : Did m (perform may t m (logOf slot) (askRead p m)) r slot′) where
+    did-is : Did m (perform may t m (g .log) (askAt p m)) r slot′
+    did-is = rw log-is at (did-as may t (logOf slot) (ask-read p m) d)
 
     abbrev taken : Effect
-    taken = perform t m (g .log) (askAt p m)
+    taken = perform may t m (g .log) (askAt p m)
 
-    pub going-stop : (x : Run) → r .turn ≡ Stop x → (x ≡ runOf p t .answer) × (slot′ ≡ layout waiting 0 (runOf p t .log))
+    pub going-stop : (x : Run) → r .turn ≡ Stop x → Ends (runBy may p t) (record { run = x; machine = r .machine }) slot′
     unfolding follow
     going-stop x e =
         let q : taken ≡ stop x (logAfter taken) = answer-stop m taken x (sym (ap (λ (y : Turned). y .turn) (did-is .answered)) ∙ e) in
-        let w = turn-left u .1 in (
-          sym (w .left-answer ∙ ap (λ (s : Effect). follow (runFrom (turn-left u .0) p t) s .answer) q),
-          did-is .logged ∙ ap (layout waiting 0) (sym (w .left-log ∙ ap (λ (s : Effect). follow (runFrom (turn-left u .0) p t) s .log) q)),
-        )
+        let w = turn-left u .1 in
+        let n : ℕ = turn-left u .0 in
+        record {
+          answered = sym (w .left-answer ∙ ap (λ (s : Effect). follow m (runFrom may n p t) s .answer) q);
+          at-end =
+              ap (λ (y : Turned). y .machine) (did-is .answered) ∙ (ap (λ (s : Effect). turned m s .machine) q
+              ∙ sym (w .left-last ∙ ap (λ (s : Effect). follow m (runFrom may n p t) s .last) q));
+          logged = did-is .logged ∙ ap (layout waiting 0) (sym (w .left-log ∙ ap (λ (s : Effect). follow m (runFrom may n p t) s .log) q));
+        }
 
     step-next : r .turn ≡ Next → taken ≡ next (r .machine) (logAfter taken)
     step-next e =
@@ -172,14 +184,14 @@ module _ {p t : List ℕ} {m : Machine} {slot : List ℕ} (runs : Runnable p) (g
         ∙ ap (λ (y : Turned). next (y .machine) (logAfter taken)) (sym (did-is .answered))
 
     pub going-forward : r .turn ≡ Next → m .place < r .machine .place
-    going-forward e = turn-forward p t m (g .log) (r .machine) (logAfter taken) (step-next e)
+    going-forward e = turn-forward may p t m (g .log) (r .machine) (logAfter taken) (step-next e)
 
-    pub going-next : r .turn ≡ Next → Going p t (r .machine) slot′
+    pub going-next : r .turn ≡ Next → Going may p t (r .machine) slot′
     unfolding follow
     going-next e =
         let n : ℕ = turn-left u .0 in
         let w = turn-left u .1 in
-        let f = turn-fits t (g .used) m (g .log) (askAt p m) (omega (arith, g .budget, w .one-less)) (g .fitting) (g .room) in
+        let f = turn-fits may t (g .used) m (g .log) (askAt p m) (omega (arith, g .budget, w .one-less)) (g .fitting) (g .room) in
         record {
           fuel = n;
           used = g .used + 1;
@@ -189,6 +201,7 @@ module _ {p t : List ℕ} {m : Machine} {slot : List ℕ} (runs : Runnable p) (g
           budget = omega (arith, g .budget, w .one-less);
           room = f .1;
           fitting = f .0;
-          same-answer = w .left-answer ∙ ap (λ (s : Effect). follow (runFrom n p t) s .answer) (step-next e);
-          same-log = w .left-log ∙ ap (λ (s : Effect). follow (runFrom n p t) s .log) (step-next e);
+          same-answer = w .left-answer ∙ ap (λ (s : Effect). follow m (runFrom may n p t) s .answer) (step-next e);
+          same-log = w .left-log ∙ ap (λ (s : Effect). follow m (runFrom may n p t) s .log) (step-next e);
+          same-last = w .left-last ∙ ap (λ (s : Effect). follow m (runFrom may n p t) s .last) (step-next e);
         }

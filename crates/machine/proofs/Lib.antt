@@ -1,9 +1,12 @@
 pub mod Named
 pub mod Asked
 pub mod Laws
+pub mod Values
+pub mod Guarded
 pub mod Turns
 pub mod Going
 pub mod Ends
 pub mod Cases
+pub mod GuardCases
 pub mod Unique
 pub mod OperationCases

@@ -92,6 +92,10 @@ operations m a b c =
 unfoldable pub askOf : ℕ → ℕ → ℕ → ℕ → Machine → Ask
 askOf op a b c m = getD (operations m a b c) op opEnd
 
+-- a byte of the instruction at the machine's place
+abbrev pub byteHere : List ℕ → Machine → ℕ → ℕ
+byteHere p m k = byteOf p (m .place) k
+
 -- what the instruction at the machine's place asks
 unfoldable pub askAt : List ℕ → Machine → Ask
-askAt p m = askOf (byteOf p (m .place) 0) (byteOf p (m .place) 1) (byteOf p (m .place) 2) (byteOf p (m .place) 3) m
+askAt p m = askOf (byteHere p m 0) (byteHere p m 1) (byteHere p m 2) (byteHere p m 3) m

@@ -3,12 +3,14 @@ ghost use mathlib.Core.Path.{_≡_};
 ghost use Prim.Native.Nat.{_+_, _*_, _<_, _≤_};
 ghost use lib.Dec.{ltb, eqb};
 ghost use lib.ListN.{length};
-ghost use Rattle.image.specs.Limits.{registers, maxCells, maxInstructions};
+ghost use Rattle.image.specs.Limits.{registers, instructionBytes, maxInstructions, maxProgramBytes};
+ghost use Rattle.guard.specs.Guards.{guardWords, admits};
 ghost use Rattle.slot.specs.States.{waiting};
 ghost use Rattle.slot.specs.Layout.{slotWords};
 ghost use Rattle.slot.specs.Log.{empty, layout, logOf};
-ghost use Rattle.machine.specs.Asks.{start, reg, written, passed, skipped, added, subtracted, askOf, opLoad, opStore};
-ghost use Rattle.machine.specs.Runs.{stop, next, runOf, stateOfRun, detailOfRun, keeps, kept, turned, Named, Ready, Did, Runnable, Begins, RunSays};
+ghost use Rattle.machine.specs.Asks.{start, reg, written, passed, skipped, added, subtracted, byteHere, askOf};
+ghost use Rattle.machine.specs.Runs.{stop, next, loading, storing, perform, runOf, stateOfRun, detailOfRun, keeps, kept, turned};
+ghost use Rattle.machine.specs.Runs.{storeAt, Named, Ready, Did, Begins, Ends, CanRun, RunSays, LastStore};
 
 // The eight registers and the place: the number of the instruction that is next.
 pub struct Machine {
@@ -23,13 +25,21 @@ pub enum Run {
     Faulted { kind: u8, at: u8 },
 }
 
-// The kinds of a fault: a load, or a store, of a cell outside the table.
+// The kinds of a fault: a load, or a store, of a cell outside the table, and a store of a value that the cell's guard does not admit.
 pub const LOAD_FAULT: u8 = 1;
 
 pub const STORE_FAULT: u8 = 2;
 
+pub const GUARD_FAULT: u8 = 3;
+
 // A fault's detail is so many times its kind, and then the instruction number.
 pub const KIND_UNIT: u32 = 256;
+
+// A store: to which cell, and of which value.
+pub struct Store {
+    pub cell: u32,
+    pub value: u32,
+}
 
 // What a turn gives: the run goes on with the machine, or stops.
 pub enum Turn {
@@ -60,6 +70,39 @@ impl Machine {
     {
         let i = a as usize;
         self.registers[i]
+    }
+
+    // The register that a byte names, 0 where it names none.
+    fn named(self, a: u8) -> u32
+        requires { ⌜ length (self .registers) ≡ registers ⌝ }
+        ensures { λ r. ⌜ r ≡ reg self a ⌝ }
+    {
+        if (a as usize) < image::Image::REGISTERS {
+            return self.register(a);
+        }
+        0
+    }
+
+    // A byte of the instruction at this place, 0 past the end.
+    fn byte_here(self, program: &[u8], k: usize) -> u8
+        requires { ⌜ (length (now program) ≤ maxProgramBytes) × (k < instructionBytes) ⌝ }
+        ensures { λ r. ⌜ r ≡ byteHere (now (program .entry)) self k ⌝ }
+    {
+        let place = self.place;
+        if place < image::Image::INSTRUCTIONS {
+            return image::byte_at(program, image::Image::INSTRUCTION_BYTES * place + k);
+        }
+        0
+    }
+
+    // The store that the instruction at this place names.
+    fn store_here(self, program: &[u8]) -> Store
+        requires { ⌜ (length (now program) ≤ maxProgramBytes) × (length (self .registers) ≡ registers) ⌝ }
+        ensures { λ r. ⌜ r ≡ storeAt (now (program .entry)) self ⌝ }
+    {
+        let cell = self.named(self.byte_here(program, 1));
+        let value = self.named(self.byte_here(program, 2));
+        Store { cell, value }
     }
 
     // On to the next instruction, with v in register a.
@@ -169,7 +212,7 @@ impl Machine {
     // Register a gets cell number r[b]: the value that the run has stored there, or the table's, which is then a read.
     fn load(self, a: u8, b: u8, table: &[u32], slot: &mut [u32]) -> Turned
         requires { ⌜ Ready self (now slot) × (a < registers) × (b < registers) ⌝ }
-        ensures { λ r. ⌜ Did (now (table .entry)) self (logOf (now (slot .entry))) (opLoad self a b) r (now (slot .exit)) ⌝ }
+        ensures { λ r. ⌜ Did self (loading (now (table .entry)) self (logOf (now (slot .entry))) a (reg self b)) r (now (slot .exit)) ⌝ }
     {
         let c = self.register(b);
         let i = c as usize;
@@ -184,30 +227,43 @@ impl Machine {
         self.faults(LOAD_FAULT)
     }
 
-    // Cell number r[a] gets r[b].
-    fn store(self, a: u8, b: u8, table: &[u32], slot: &mut [u32]) -> Turned
-        requires { ⌜ Ready self (now slot) × (a < registers) × (b < registers) ⌝ }
-        ensures { λ r. ⌜ Did (now (table .entry)) self (logOf (now (slot .entry))) (opStore self a b) r (now (slot .exit)) ⌝ }
+    // Cell number r[a] gets r[b], where its guard admits that value.
+    fn store(self, a: u8, b: u8, table: &[u32], guards: &[u32], slot: &mut [u32]) -> Turned
+        requires { ⌜ Ready self (now slot) × (a < registers) × (b < registers) × (length (now guards) ≡ guardWords (length (now table))) ⌝ }
+        ensures { λ r. ⌜ Did self (storing (admits (now (guards .entry))) (now (table .entry)) self (logOf (now (slot .entry))) (reg self a) (reg self b)) r (now (slot .exit)) ⌝ }
     {
         let c = self.register(a);
+        let v = self.register(b);
         let i = c as usize;
         if i < table.len() {
-            slot::note_store(slot, c, self.register(b));
-            return self.passed().goes();
+            if guard::admits(guards, i, v) {
+                slot::note_store(slot, c, v);
+                return self.passed().goes();
+            }
+            return self.faults(GUARD_FAULT);
         }
         self.faults(STORE_FAULT)
     }
 
     // One turn: the instruction op, a, b, c.
-    fn step(self, op: u8, a: u8, b: u8, c: u8, table: &[u32], slot: &mut [u32]) -> Turned
-        requires { ⌜ Ready self (now slot) × Named op a b c ⌝ }
-        ensures { λ r. ⌜ Did (now (table .entry)) self (logOf (now (slot .entry))) (askOf op a b c self) r (now (slot .exit)) ⌝ }
+    fn step(
+        self,
+        op: u8,
+        a: u8,
+        b: u8,
+        c: u8,
+        table: &[u32],
+        guards: &[u32],
+        slot: &mut [u32],
+    ) -> Turned
+        requires { ⌜ Ready self (now slot) × Named op a b c × (length (now guards) ≡ guardWords (length (now table))) ⌝ }
+        ensures { λ r. ⌜ Did self (perform (admits (now (guards .entry))) (now (table .entry)) self (logOf (now (slot .entry))) (askOf op a b c self)) r (now (slot .exit)) ⌝ }
     {
         match op {
             0 => self.stops(Run::Finished),
             1 => self.set(a, b, c).goes(),
             2 => self.load(a, b, table, slot),
-            3 => self.store(a, b, table, slot),
+            3 => self.store(a, b, table, guards, slot),
             4 => self.add(a, b, c).goes(),
             5 => self.sub(a, b, c).goes(),
             6 => self.skip_less(a, b, c).goes(),
@@ -218,11 +274,16 @@ impl Machine {
     }
 }
 
+// How a run ended, and the machine at its end.
+struct Ended {
+    run: Run,
+    machine: Machine,
+}
+
 // The turns of a run, from an empty log. Every turn goes forward; arriving at m is an end.
-fn take_turns(program: &[u8], table: &[u32], slot: &mut [u32]) -> Run
-    requires { ⌜ Begins (now program) (now slot) ⌝ }
-    ensures { λ r. ⌜ r ≡ runOf (now (program .entry)) (now (table .entry)) .answer ⌝ }
-    ensures { λ _. ⌜ now (slot .exit) ≡ layout waiting 0 (runOf (now (program .entry)) (now (table .entry)) .log) ⌝ }
+fn take_turns(program: &[u8], table: &[u32], guards: &[u32], slot: &mut [u32]) -> Ended
+    requires { ⌜ Begins (now program) (now table) (now guards) (now slot) ⌝ }
+    ensures { λ r. ⌜ Ends (runOf (now (program .entry)) (now (table .entry)) (now (guards .entry))) r (now (slot .exit)) ⌝ }
 {
     let count = program.len() / image::Image::INSTRUCTION_BYTES;
     let mut machine = Machine::new();
@@ -234,20 +295,27 @@ fn take_turns(program: &[u8], table: &[u32], slot: &mut [u32]) -> Run
             program[at + 2],
             program[at + 3],
             table,
+            guards,
             slot,
         );
         let turn = turned.turn;
         let after = turned.machine;
         match turn {
             Turn::Stop(run) => {
-                return run;
+                return Ended {
+                    run,
+                    machine: after,
+                };
             }
             Turn::Next => {
                 machine = after;
             }
         }
     }
-    Run::Finished
+    Ended {
+        run: Run::Finished,
+        machine,
+    }
 }
 
 // The state that a run's end leaves.
@@ -304,13 +372,26 @@ fn finish(slot: &mut [u32], run: Run)
     slot[slot::DETAIL] = detail_of(run);
 }
 
-// The run of a program on a table: its answer, and its whole slot.
-pub fn run_program(program: &[u8], table: &[u32], slot: &mut [u32]) -> Run
-    requires { ⌜ Runnable (now program) × (length (now table) ≤ maxCells) × (length (now slot) ≡ slotWords) ⌝ }
-    ensures { λ r. ⌜ RunSays (now (program .entry)) (now (table .entry)) r (now (slot .exit)) ⌝ }
+// The run of a program on a table, with the table's guards: its answer, and its whole slot.
+pub fn run_program(program: &[u8], table: &[u32], guards: &[u32], slot: &mut [u32]) -> Run
+    requires { ⌜ CanRun (now program) (now table) (now guards) (now slot) ⌝ }
+    ensures { λ r. ⌜ RunSays (now (program .entry)) (now (table .entry)) (now (guards .entry)) r (now (slot .exit)) ⌝ }
 {
     slot::clear(slot);
-    let run = take_turns(program, table, slot);
+    let ended = take_turns(program, table, guards, slot);
+    let run = ended.run;
     finish(slot, run);
     run
+}
+
+// The store at which a program's run stopped, where it did: the cell and the value that the instruction at its end names. It runs the program again, in a slot
+// that is lent for it.
+pub fn last_store(program: &[u8], table: &[u32], guards: &[u32], slot: &mut [u32]) -> Store
+    requires { ⌜ CanRun (now program) (now table) (now guards) (now slot) ⌝ }
+    ensures { λ r. ⌜ LastStore (now (program .entry)) (now (table .entry)) (now (guards .entry)) r (now (slot .exit)) ⌝ }
+{
+    slot::clear(slot);
+    let ended = take_turns(program, table, guards, slot);
+    let machine = ended.machine;
+    machine.store_here(program)
 }

@@ -10,20 +10,20 @@ use Rattle.machine.proofs.run_program.Statement.{statement}
 use Rattle.machine.proofs.run_program.Tie as tie
 
 abbrev start-of : tie.After-clear → tie.Start
-start-of d = d .before .before .before .before .before
+start-of d = d .before .before .before .before .before .before
 
 take-turns-requires : tie.Need-take-turns-requires
 take-turns-requires c κs =
     let d = c .before .before .before in
     let s = start-of d in
-    record { runnable = s .pre .0; no-log = d .clear .ensures ∙ ap (λ (k : ℕ). replicate k 0) (s .pre .2) }
+    record { runnable = s .pre .runnable; pairs = s .pre .pairs; no-log = d .clear .ensures ∙ ap (λ (k : ℕ). replicate k 0) (s .pre .sized) }
 
 finish-requires : tie.Need-finish-requires
 finish-requires c κs =
     let d = c .before .before .before in
     let s = start-of (d .before .before .before .before) in
-    let e = d .take-turns .ensures .1 in
-    (outcome-words _ (s .args .table .now) (s .pre .0) e, e ∙ ap (layout waiting 0) (sym (outcome-log _ (s .args .table .now) (s .pre .0) e)))
+    let e = d .take-turns .ensures .logged in
+    (outcome-words _ _ (s .args .table .now) (s .pre .runnable) e, e ∙ ap (layout waiting 0) (sym (outcome-log _ _ (s .args .table .now) (s .pre .runnable) e)))
 
 returns : tie.Need-returns
 returns c =
@@ -32,8 +32,8 @@ returns c =
     let s = start-of (d .before .before .before .before) in
     let w = d .take-turns in
     record {
-      answer = w .ensures .0;
-      left = f .finish .ensures ∙ end-is _ (w .ensures .0) (outcome-log _ (s .args .table .now) (s .pre .0) (w .ensures .1));
+      answer = w .ensures .answered;
+      left = f .finish .ensures ∙ end-is _ (w .ensures .answered) (outcome-log _ _ (s .args .table .now) (s .pre .runnable) (w .ensures .logged));
     }
 
 pub run-program-spec : {M : Type 1} → statement M

@@ -46,7 +46,7 @@ returns-3 c =
     let q = c .before .before in
     let s = start-of q in
     let a = s .args in
-    did-stop _ (load-fault (a .table .now) (a .self) (logOf (a .slot .now)) (q .register .result) _ (q .register .ensures) (a .a) (c .before .if1 .left))
+    did-stop _ _ (load-fault (a .table .now) (a .self) (logOf (a .slot .now)) (q .register .result) _ (q .register .ensures) (a .a) (c .before .if1 .left))
     (c .faults .ensures) (s .pre .0 .holds .is)
 
 pub load-spec : {M : Type 1} → statement M
