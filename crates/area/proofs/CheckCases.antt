@@ -1,4 +1,4 @@
--- Document 01, "What each refusal says", tried by computation on checks 5, 6, 7 and 9: each comparison on both its sides, and the row order. The area
+-- Document 01, "What each refusal says", tried by computation on checks 5, 14, 6, 7 and 9: each comparison on both its sides, and the row order. The area
 -- is lent for T = 3 cells and n = 2 programs where nothing else is said. Assumes nothing.
 use Prim.Native.Nat.{ℕ, _*_}
 use mathlib.Core.Bool.{true, false}
@@ -7,6 +7,7 @@ use mathlib.Core.List.{List, [], _∷_, _++_, map}
 use lib.ListN.{set, take, replicate}
 use Rattle.image.specs.Assembler.{instruction, program, image}
 use Rattle.image.specs.Bench.{empty}
+use Rattle.guard.specs.Guards.{fullFor}
 use Rattle.area.specs.Checks.{noneWaits, allEnded, openRefusal, callRefusal, endedRefusal}
 use Rattle.area.specs.Sketch.{slot, area}
 use Rattle.area.specs.Opened.{opened}
@@ -18,21 +19,32 @@ two = image 0 ([] ∷ [] ∷ [])
 abbrev zeros : ℕ → List ℕ
 zeros n = replicate n 0
 
--- the refusals' numbers: at opening, at the calls that follow, at those that come last
+-- the refusals' numbers: at opening, at the calls that follow, at those that come last; the guards are a pair for each cell
 abbrev atOpening : List ℕ → List ℕ → List ℕ → ℕ
-atOpening i t a = openRefusal i t a .number
+atOpening i t a = openRefusal i t (fullFor t) a .number
 
 abbrev atCall : List ℕ → List ℕ → List ℕ → ℕ
-atCall i t a = callRefusal i t a .number
+atCall i t a = callRefusal i t (fullFor t) a .number
 
 abbrev atEnd : List ℕ → List ℕ → List ℕ → ℕ
-atEnd i t a = endedRefusal i t a .number
+atEnd i t a = endedRefusal i t (fullFor t) a .number
 
 -- ---- 5, "table of 0 or over 256 cells"
 
 cells-0-1-256-257 : map (λ T. atOpening empty (zeros T) (zeros (2 * T))) (0 ∷ 1 ∷ 256 ∷ 257 ∷ []) ≡ 5 ∷ 0 ∷ 0 ∷ 5 ∷ []
 unfolding opened
 cells-0-1-256-257 = refl
+
+-- ---- 14, "guard list not T pairs": at every call, with 0, 3, 5, 6, 7 and 12 words of guards for 3 cells, whatever stands in them
+
+words-of-guards : map (λ w. openRefusal two (zeros 3) (zeros w) (zeros 206) .number) (0 ∷ 3 ∷ 5 ∷ 6 ∷ 7 ∷ 12 ∷ []) ≡ 14 ∷ 14 ∷ 14 ∷ 0 ∷ 14 ∷ 14 ∷ []
+unfolding opened
+words-of-guards = refl
+
+guards-at-every-call : map (λ w. callRefusal two (zeros 3) (zeros w) (zeros 206) .number ∷ endedRefusal two (zeros 3) (zeros w) (zeros 206) .number ∷ []) (5 ∷ 6 ∷ 7 ∷ [])
+    ≡ (14 ∷ 14 ∷ []) ∷ (0 ∷ 9 ∷ []) ∷ (14 ∷ 14 ∷ []) ∷ []
+unfolding opened
+guards-at-every-call = refl
 
 -- ---- 6, "area is not 2T + 100n words"
 
@@ -137,6 +149,11 @@ images-first : (map (λ i. atOpening i [] []) badImages ≡ 1 ∷ 2 ∷ 3 ∷ 41
     × (map (λ i. atEnd i [] []) badImages ≡ 1 ∷ 2 ∷ 3 ∷ 41 ∷ [])
 unfolding opened
 images-first = (refl, refl, refl)
+
+-- 14 "after 5": no cells, and guards for one. And before 6: a word of guards too few and a word of the area too many.
+around-14 : openRefusal two [] (zeros 2) (zeros 200) .number ∷ openRefusal two (zeros 3) (zeros 5) (zeros 207) .number ∷ [] ≡ 5 ∷ 14 ∷ []
+unfolding opened
+around-14 = refl
 
 -- 5 before 6: no cells and a word too many. 6 before 7: a word too few and a mark over n. 7 before 9: a state 6 beside a state 0.
 row-order : atOpening two [] (zeros 201) ∷ atCall two [] (zeros 201) ∷ atCall two (zeros 3) (replicate 205 3) ∷ atEnd two (zeros 3) (states 6 0) ∷ []

@@ -17,6 +17,7 @@ use Rattle.image.specs.Image.{countOf, refusalOf}
 use Rattle.image.proofs.Laws.{accepted, refusal-well, few-programs}
 use Rattle.image.proofs.Places.{plain-well}
 use Rattle.image.proofs.Refusing.{check-either, goes-on, none-fails, none-after, first-passes, number-of}
+use Rattle.guard.specs.Guards.{guardWords, pairsFor}
 use Rattle.slot.specs.declared.ListKind.{ListKind}
 use Rattle.slot.specs.declared.ListKind.the-variants.{Reads, Stores}
 use Rattle.slot.specs.States.{lastState}
@@ -28,44 +29,54 @@ use Rattle.area.specs.declared.MarkKind.{MarkKind}
 use Rattle.area.specs.declared.MarkKind.the-variants.{Write, Read}
 use Rattle.area.specs.Layout.{areaWords, marksAt, slotStart, stateOf, countAt, listAt, slotAt}
 use Rattle.area.specs.Checks.{tableGood, sizeIs, allBelow, marksGood, stateGood, listGood, slotGood, slotsGood, wordsGood}
-use Rattle.area.specs.Checks.{roomRefusal, openRefusal, callRefusal, Checked, Measured, HasSlot, Slotted}
+use Rattle.area.specs.Checks.{roomRefusal, openRefusal, callRefusal, Checked, Paired, Measured, HasSlot, Slotted}
 use Rattle.area.proofs.Views.{each-mark, slot-word, state-in-slot, count-in-slot}
 
--- ---- checks 1 to 6, and 1 to 7
+-- ---- checks 1 to 6 with 14 among them, and 7
 
 pub few : (image : List ℕ) → refusalOf image .number ≡ 0 → countOf image ≤ maxPrograms
 few image e = few-programs image (accepted image e .header)
 
--- what 5 and 6 show of table and area, after 1 to 4
-pub record Room (image t a : List ℕ) : Type 0 where
+-- what 5, 14 and 6 show of table, guards and area, after 1 to 4
+pub record Room (image t g a : List ℕ) : Type 0 where
   pub accepted : refusalOf image .number ≡ 0
   pub cells-some : 0 < length t
   pub cells-few : length t ≤ maxCells
+  pub pairs : Paired t g
   pub sized : length a ≡ areaWords (length t) (countOf image)
 
-module _ (image t a : List ℕ) where
-  pub open-shows : openRefusal image t a .number ≡ 0 → Room image t a
-  unfolding openRefusal roomRefusal tableGood sizeIs
+module _ (image t g a : List ℕ) where
+  pub open-shows : openRefusal image t g a .number ≡ 0 → Room image t g a
+  unfolding openRefusal roomRefusal tableGood pairsFor sizeIs
   open-shows e =
       let w = none-after (refusalOf image) _ e in
       let s = none-fails (tableGood t) refusal.tableSize _ (λ z. omega arith) (w .1) in
-      let z = none-fails (sizeIs (length t) (countOf image) a) refusal.areaSize _ (λ z. omega arith) (s .1) in
+      let p = none-fails (pairsFor (length t) g) refusal.guards _ (λ z. omega arith) (s .1) in
+      let z = none-fails (sizeIs (length t) (countOf image) a) refusal.areaSize _ (λ z. omega arith) (p .1) in
       let c = and-both (leb minCells (length t)) (leb (length t) maxCells) (s .0) in
-      record { accepted = w .0; cells-some = leb-true _ _ (c .0); cells-few = leb-true _ _ (c .1); sized = eqb-true _ _ (z .0) }
+      record {
+        accepted = w .0;
+        cells-some = leb-true _ _ (c .0);
+        cells-few = leb-true _ _ (c .1);
+        pairs = eqb-true _ _ (p .0);
+        sized = eqb-true _ _ (z .0);
+      }
 
   -- its place is meant
-  pub open-well : WellPlaced (openRefusal image t a)
+  pub open-well : WellPlaced (openRefusal image t g a)
   unfolding openRefusal roomRefusal
   open-well =
       check-either WellPlaced _ (refusal-well image)
-      (check-either WellPlaced (tableGood t) (plain-well 5) (check-either WellPlaced (sizeIs (length t) (countOf image) a) (plain-well 6) (plain-well 0)))
+      (check-either WellPlaced (tableGood t) (plain-well 5)
+      (check-either WellPlaced (pairsFor (length t) g) (plain-well 14)
+      (check-either WellPlaced (sizeIs (length t) (countOf image) a) (plain-well 6) (plain-well 0))))
 
-  -- no refusal is exactly what `Checked` says
-  pub checked : callRefusal image t a .number ≡ 0 → Checked image t a
+  -- no refusal is exactly what `Checked` and `Paired` say
+  pub checked : callRefusal image t g a .number ≡ 0 → Checked image t a
   unfolding callRefusal
   checked e =
-      let w = none-after (openRefusal image t a) _ e in
-      let g = none-fails (wordsGood (length t) (countOf image) a) refusal.area _ (λ z. omega arith) (w .1) in
+      let w = none-after (openRefusal image t g a) _ e in
+      let words = none-fails (wordsGood (length t) (countOf image) a) refusal.area _ (λ z. omega arith) (w .1) in
       let r = open-shows (w .0) in
       record {
         accepted = r .accepted;
@@ -73,19 +84,24 @@ module _ (image t a : List ℕ) where
         cells-some = r .cells-some;
         cells-few = r .cells-few;
         sized = r .sized;
-        good = g .0;
+        good = words .0;
       }
 
-  open-is : Checked image t a → openRefusal image t a .number ≡ 0
-  unfolding openRefusal roomRefusal tableGood sizeIs
-  open-is c =
+  pub paired : callRefusal image t g a .number ≡ 0 → Paired t g
+  unfolding callRefusal
+  paired e = open-shows (none-after (openRefusal image t g a) _ e .0) .pairs
+
+  open-is : Checked image t a → Paired t g → openRefusal image t g a .number ≡ 0
+  unfolding openRefusal roomRefusal tableGood pairsFor sizeIs
+  open-is c p =
       number-of (sym (first-passes refl (c .accepted)
       (goes-on _ (both-and (le-leb minCells (length t) (c .cells-some)) (le-leb (length t) maxCells (c .cells-few)))
-      (goes-on _ (eq-eqb (length a) (areaWords (length t) (countOf image)) (c .sized)) refl))))
+      (goes-on _ (eq-eqb (length g) (guardWords (length t)) p)
+      (goes-on _ (eq-eqb (length a) (areaWords (length t) (countOf image)) (c .sized)) refl)))))
 
-  pub checked-is : Checked image t a → callRefusal image t a .number ≡ 0
+  pub checked-is : Checked image t a → Paired t g → callRefusal image t g a .number ≡ 0
   unfolding callRefusal
-  checked-is c = number-of (sym (first-passes refl (open-is c) (goes-on _ (c .good) refl)))
+  checked-is c p = number-of (sym (first-passes refl (open-is c p) (goes-on _ (c .good) refl)))
 
 -- ---- check 7, in plain facts
 
@@ -196,9 +212,9 @@ module _ (T n : ℕ) (a : List ℕ) where
 -- ---- what the checks 1 to 7 show of the area and of a program
 
 -- of an area that has passed checks 1 to 6, or 1 to 7
-pub room-measured : (image t a : List ℕ) → openRefusal image t a .number ≡ 0 → (n : ℕ) → n ≡ countOf image → Measured (length t) n a
-room-measured image t a e n q =
-    let r = open-shows image t a e in
+pub room-measured : (image t g a : List ℕ) → openRefusal image t g a .number ≡ 0 → (n : ℕ) → n ≡ countOf image → Measured (length t) n a
+room-measured image t g a e n q =
+    let r = open-shows image t g a e in
     record { cells-few = r .cells-few; programs-few = omega (arith, few image (r .accepted)); sized = rw q (r .sized) }
 
 pub measured-lies : (T n : ℕ) (a : List ℕ) → Measured T n a → (k : ℕ) → k < n → HasSlot T k a

@@ -162,9 +162,9 @@ checked-table image t u a c e =
     }
 
 -- an area that opening has set to 0
-pub checked-open : (image t a : List ℕ) → openRefusal image t a .number ≡ 0 → Checked image t (replicate (length a) 0)
-checked-open image t a e =
-    let r = open-shows image t a e in
+pub checked-open : (image t g a : List ℕ) → openRefusal image t g a .number ≡ 0 → Checked image t (replicate (length a) 0)
+checked-open image t g a e =
+    let r = open-shows image t g a e in
     record {
       accepted = r .accepted;
       programs = few image (r .accepted);

@@ -1,4 +1,5 @@
--- Document 01, "What each refusal says": checks 5, 6, 7 and 9, and the checks that every call on an area begins with. Assumes nothing.
+-- Document 01, "What each refusal says": checks 5, 6, 7 and 9, where document 02's 14 comes in, and the checks that every call on an area begins with.
+-- Assumes nothing.
 use Prim.Native.Nat.{ℕ, _+_, _≤_, _<_}
 use mathlib.Core.Path.{_≡_}
 use mathlib.Core.Bool.{Bool, true, _&&_}
@@ -11,6 +12,7 @@ use Rattle.image.specs.declared.Refusal.{Refusal}
 use Rattle.image.specs.Refusals as refusal
 use Rattle.image.specs.Refusals.{check, after}
 use Rattle.image.specs.Image.{countOf, refusalOf}
+use Rattle.guard.specs.Guards.{guardWords, pairsFor}
 use Rattle.slot.specs.declared.ListKind.{ListKind}
 use Rattle.slot.specs.declared.ListKind.the-variants.{Reads, Stores}
 use Rattle.slot.specs.States.{gathered, firstEnd, lastState}
@@ -61,27 +63,31 @@ noneWaits = statesFrom gathered
 abbrev pub allEnded : ℕ → ℕ → List ℕ → Bool
 allEnded = statesFrom firstEnd
 
--- ---- which checks go first
+-- ---- which checks go first; wherever a comment of the house says "checks 1 to 7", or more, 14 is among them, in its place
 
--- 5 and 6, for n programs
-unfoldable pub roomRefusal : ℕ → List ℕ → List ℕ → Refusal
-roomRefusal n t a = check (tableGood t) refusal.tableSize (check (sizeIs (length t) n a) refusal.areaSize refusal.none)
+-- 5; 14, "after 5" (document 02, ask 5); and 6, for n programs
+unfoldable pub roomRefusal : ℕ → (t g a : List ℕ) → Refusal
+roomRefusal n t g a =
+    check (tableGood t) refusal.tableSize
+    (check (pairsFor (length t) g) refusal.guards
+    (check (sizeIs (length t) n a) refusal.areaSize
+    refusal.none))
 
--- 1 to 6, as opening makes them
-unfoldable pub openRefusal : List ℕ → List ℕ → List ℕ → Refusal
-openRefusal image t a = after (refusalOf image) (roomRefusal (countOf image) t a)
+-- 1 to 5, 14, 6, as opening makes them
+unfoldable pub openRefusal : (image t g a : List ℕ) → Refusal
+openRefusal image t g a = after (refusalOf image) (roomRefusal (countOf image) t g a)
 
--- 1 to 7, as every other call that is lent image, table and area does
-unfoldable pub callRefusal : List ℕ → List ℕ → List ℕ → Refusal
-callRefusal image t a = after (openRefusal image t a) (check (wordsGood (length t) (countOf image) a) refusal.area refusal.none)
+-- and 7, as every other call that is lent image, table, guards and area does
+unfoldable pub callRefusal : (image t g a : List ℕ) → Refusal
+callRefusal image t g a = after (openRefusal image t g a) (check (wordsGood (length t) (countOf image) a) refusal.area refusal.none)
 
 -- and 9, "Order, next image: some state 0 or 1"
-unfoldable pub endedRefusal : List ℕ → List ℕ → List ℕ → Refusal
-endedRefusal image t a = after (callRefusal image t a) (check (allEnded (length t) (countOf image) a) refusal.state refusal.none)
+unfoldable pub endedRefusal : (image t g a : List ℕ) → Refusal
+endedRefusal image t g a = after (callRefusal image t g a) (check (allEnded (length t) (countOf image) a) refusal.state refusal.none)
 
 -- ---- what the checks have shown
 
--- 1 to 7: the `requires` of every inner function, which a whole batch has to check once
+-- 1 to 7, of image, table and area: the `requires` of every inner function, which a whole batch has to check once
 pub record Checked (image t a : List ℕ) : Type 0 where
   pub accepted : refusalOf image .number ≡ 0
   pub programs : countOf image ≤ maxPrograms
@@ -89,6 +95,10 @@ pub record Checked (image t a : List ℕ) : Type 0 where
   pub cells-few : length t ≤ maxCells
   pub sized : length a ≡ areaWords (length t) (countOf image)
   pub good : wordsGood (length t) (countOf image) a ≡ true
+
+-- 14: the guards have a pair for each cell
+abbrev pub Paired : (t g : List ℕ) → Type 0
+Paired t g = length g ≡ guardWords (length t)
 
 -- the area has the words for T cells and n programs
 pub record Measured (T n : ℕ) (a : List ℕ) : Type 0 where

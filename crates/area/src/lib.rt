@@ -321,13 +321,16 @@ fn words_good(area: &[u32], cells: usize, n: usize) -> bool
     slots_good(area, cells, n)
 }
 
-// Checks 5 and 6, for n programs.
-fn room_refusal(n: usize, table: &[u32], area: &[u32]) -> image::Refusal
+// Checks 5, 14 and 6, for n programs.
+fn room_refusal(n: usize, table: &[u32], guards: &[u32], area: &[u32]) -> image::Refusal
     requires { ⌜ n ≤ maxPrograms ⌝ }
-    ensures { λ r. ⌜ r ≡ roomRefusal n (now (table .entry)) (now (area .entry)) ⌝ }
+    ensures { λ r. ⌜ r ≡ roomRefusal n (now (table .entry)) (now (guards .entry)) (now (area .entry)) ⌝ }
 {
     if !table_good(table) {
         return image::Refusal::TABLE_SIZE;
+    }
+    if !guard::pairs_for(table.len(), guards) {
+        return image::Refusal::GUARDS;
     }
     if area.len() != slot_start(table.len(), n) {
         return image::Refusal::AREA_SIZE;
@@ -335,33 +338,35 @@ fn room_refusal(n: usize, table: &[u32], area: &[u32]) -> image::Refusal
     image::Refusal::NONE
 }
 
-// Checks 1 to 6. The caller makes 1 to 4 first and hands over what they said, so that their stack does not come on top of this one's.
+// Checks 1 to 5, 14, 6. The caller makes 1 to 4 first and hands over what they said, so that their stack does not come on top of this one's.
 pub fn open_refusal(
     refused: image::Refusal,
     image: &[u8],
     table: &[u32],
+    guards: &[u32],
     area: &[u32],
 ) -> image::Refusal
     requires { ⌜ refused ≡ refusalOf (now image) ⌝ }
-    ensures { λ r. ⌜ r ≡ openRefusal (now (image .entry)) (now (table .entry)) (now (area .entry)) ⌝ }
+    ensures { λ r. ⌜ r ≡ openRefusal (now (image .entry)) (now (table .entry)) (now (guards .entry)) (now (area .entry)) ⌝ }
 {
     if refused.number != 0 {
         return refused;
     }
-    room_refusal(image::count(image), table, area)
+    room_refusal(image::count(image), table, guards, area)
 }
 
-// Checks 1 to 7, after the same four.
+// Checks 1 to 5, 14, 6, 7, after the same four.
 pub fn call_refusal(
     refused: image::Refusal,
     image: &[u8],
     table: &[u32],
+    guards: &[u32],
     area: &[u32],
 ) -> image::Refusal
     requires { ⌜ refused ≡ refusalOf (now image) ⌝ }
-    ensures { λ r. ⌜ r ≡ callRefusal (now (image .entry)) (now (table .entry)) (now (area .entry)) ⌝ }
+    ensures { λ r. ⌜ r ≡ callRefusal (now (image .entry)) (now (table .entry)) (now (guards .entry)) (now (area .entry)) ⌝ }
 {
-    let opening = open_refusal(refused, image, table, area);
+    let opening = open_refusal(refused, image, table, guards, area);
     if opening.number != 0 {
         return opening;
     }
@@ -371,11 +376,11 @@ pub fn call_refusal(
     image::Refusal::NONE
 }
 
-// Checks 1 to 7, and 9 as the listed order and the next image make it.
-pub fn ended_refusal(image: &[u8], table: &[u32], area: &[u32]) -> image::Refusal
-    ensures { λ r. ⌜ r ≡ endedRefusal (now (image .entry)) (now (table .entry)) (now (area .entry)) ⌝ }
+// The same, and 9 as the listed order and the next image make it.
+pub fn ended_refusal(image: &[u8], table: &[u32], guards: &[u32], area: &[u32]) -> image::Refusal
+    ensures { λ r. ⌜ r ≡ endedRefusal (now (image .entry)) (now (table .entry)) (now (guards .entry)) (now (area .entry)) ⌝ }
 {
-    let refused = call_refusal(image::image_refusal(image), image, table, area);
+    let refused = call_refusal(image::image_refusal(image), image, table, guards, area);
     if refused.number != 0 {
         return refused;
     }

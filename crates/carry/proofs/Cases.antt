@@ -8,6 +8,7 @@ use Rattle.image.specs.declared.Refusal.{Refusal}
 use Rattle.image.specs.Refusals.{refusingAt, refusing, Counted, noCount, counted}
 use Rattle.image.specs.Assembler as assembler
 use Rattle.image.specs.Assembler.{program, joined, image, store, reject, instruction}
+use Rattle.guard.specs.Guards.{fullFor}
 use Rattle.slot.specs.Log.{empty, layout}
 use Rattle.carry.specs.declared.Next.the-variants.{Refused, Length}
 use Rattle.carry.specs.Next.{nextAnswer, nextOut, numbersOfNext, NextSays}
@@ -37,7 +38,7 @@ area states = 0 ∷ 0 ∷ joined (map (λ s. layout s 0 empty) states)
 
 -- the numbers that the call returns, refusal and length, and the output that it leaves
 abbrev called : (image table area fresh out : List ℕ) → Counted × List ℕ
-called image t a fresh out = (numbersOfNext (nextAnswer image t a fresh out), nextOut image t a fresh out)
+called image t a fresh out = (numbersOfNext (nextAnswer image t (fullFor t) a fresh out), nextOut image t (fullFor t) a fresh out)
 
 abbrev done : ℕ → List ℕ → Counted × List ℕ
 done bytes out = (counted bytes, out)
@@ -120,8 +121,8 @@ unfolding opened
 sizes-29-28-27 = refl
 
 -- what the call's contract says of all this
-next-says : NextSays batch (5 ∷ []) (area (4 ∷ 5 ∷ 5 ∷ [])) (image 1 (four ∷ [])) (nines 29) (Length 28) (image 1 (two ∷ three ∷ four ∷ []) ++ (9 ∷ []))
-    × NextSays batch (5 ∷ []) (area (4 ∷ 5 ∷ 5 ∷ [])) (image 1 (four ∷ [])) (nines 27) (Refused (refusing 10)) (nines 27)
+next-says : NextSays batch (5 ∷ []) (1 ∷ 0 ∷ []) (area (4 ∷ 5 ∷ 5 ∷ [])) (image 1 (four ∷ [])) (nines 29) (Length 28) (image 1 (two ∷ three ∷ four ∷ []) ++ (9 ∷ []))
+    × NextSays batch (5 ∷ []) (1 ∷ 0 ∷ []) (area (4 ∷ 5 ∷ 5 ∷ [])) (image 1 (four ∷ [])) (nines 27) (Refused (refusing 10)) (nines 27)
 unfolding opened
 next-says = (record { answer = refl; bytes = refl }, record { answer = refl; bytes = refl })
 
@@ -211,3 +212,9 @@ row-order : called (take 5 (spoilt 3 2)) [] overmarked fresh-1 (9 ∷ [])
     ++ (refusingAt 61 63 1 ∷ refusing 11 ∷ refusing 10 ∷ []))
 unfolding opened
 row-order = refl
+
+-- 14 after 5, before 6: guards of a word too many, where the area has a word too many and all the rest is broken too
+guards-too-long : NextSays batch (5 ∷ []) (1 ∷ 0 ∷ 0 ∷ []) (overmarked ++ (0 ∷ [])) fresh-1 (9 ∷ []) (Refused (refusing 14)) (9 ∷ [])
+    × NextSays batch [] (1 ∷ 0 ∷ 0 ∷ []) (overmarked ++ (0 ∷ [])) fresh-1 (9 ∷ []) (Refused (refusing 5)) (9 ∷ [])
+unfolding opened
+guards-too-long = (record { answer = refl; bytes = refl }, record { answer = refl; bytes = refl })

@@ -24,11 +24,11 @@ unfolding freshRefusalOf
 fresh-shows fresh e =
     eqb-true _ _ (none-fails (passes (refusalOf fresh)) (refusal.ofFresh (refusalOf fresh)) refusal.none (λ z. omega arith) e .0)
 
-pub lent-shows : (image t a fresh : List ℕ) → lentRefusal image t a fresh .number ≡ 0 → Checked image t a × (refusalOf fresh .number ≡ 0)
+pub lent-shows : (image t g a fresh : List ℕ) → lentRefusal image t g a fresh .number ≡ 0 → Checked image t a × (refusalOf fresh .number ≡ 0)
 unfolding lentRefusal endedRefusal
-lent-shows image t a fresh e =
-    let w = none-after (endedRefusal image t a) _ e in
-    (checked image t a (none-after (callRefusal image t a) _ (w .0) .0), fresh-shows fresh (w .1))
+lent-shows image t g a fresh e =
+    let w = none-after (endedRefusal image t g a) _ e in
+    (checked image t g a (none-after (callRefusal image t g a) _ (w .0) .0), fresh-shows fresh (w .1))
 
 pub size-shows : (programs : ℕ) (next out : List ℕ) → sizeRefusal programs next out .number ≡ 0 → (programs ≤ maxPrograms) × (length next ≤ length out)
 unfolding sizeRefusal
@@ -39,27 +39,27 @@ size-shows programs next out e =
 
 -- ---- the call
 
-module _ (image t a fresh out : List ℕ) where
+module _ (image t g a fresh out : List ℕ) where
   -- what it shows of both images, and how many programs there are
   pub record NextShows : Type 0 where
     pub good : refusalOf image .number ≡ 0
     pub good-fresh : refusalOf fresh .number ≡ 0
     pub few-enough : carriedCount (length t) (countOf image) a + countOf fresh ≤ maxPrograms
 
-  pub next-shows : nextRefusal image t a fresh out .number ≡ 0 → NextShows
+  pub next-shows : nextRefusal image t g a fresh out .number ≡ 0 → NextShows
   unfolding nextRefusal
   next-shows e =
-      let w = none-after (lentRefusal image t a fresh) _ e in
-      let p = lent-shows image t a fresh (w .0) in
+      let w = none-after (lentRefusal image t g a fresh) _ e in
+      let p = lent-shows image t g a fresh (w .0) in
       record { good = p .0 .accepted; good-fresh = p .1; few-enough = size-shows _ _ out (w .1) .0 }
 
-  module _ (r : Refusal) (e : r ≡ nextRefusal image t a fresh out) where
-    pub next-refused : (r .number ≡ 0 → ⊥) → NextSays image t a fresh out (Refused r) out
+  module _ (r : Refusal) (e : r ≡ nextRefusal image t g a fresh out) where
+    pub next-refused : (r .number ≡ 0 → ⊥) → NextSays image t g a fresh out (Refused r) out
     unfolding nextAnswer nextOut
     next-refused h = record { answer = refused-as Refused _ e h; bytes = refused-as (λ r. out) _ e h }
 
     pub next-done : r .number ≡ 0 → {n : ℕ} {out′ : List ℕ} → Wrote out 0 (nextImage (length t) image a fresh) out′ n
-        → NextSays image t a fresh out (Length n) out′
+        → NextSays image t g a fresh out (Length n) out′
     unfolding nextAnswer nextOut
     next-done h w =
         record {

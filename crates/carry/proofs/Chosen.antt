@@ -20,17 +20,17 @@ use Rattle.carry.specs.Sources.{Sources, imageFrom}
 use Rattle.carry.proofs.Sources.{carried-counted, from-is}
 use Rattle.carry.proofs.Checks.{lent-shows, size-shows, next-done}
 
-pub record Chosen (image t a fresh : List ℕ) (n m mask programs : ℕ) : Type 0 where
-  pub lent : lentRefusal image t a fresh .number ≡ 0
+pub record Chosen (image t g a fresh : List ℕ) (n m mask programs : ℕ) : Type 0 where
+  pub lent : lentRefusal image t g a fresh .number ≡ 0
   pub n-is : n ≡ countOf image
   pub m-is : m ≡ countOf fresh
   pub mask-is : mask ≡ maskOf (inGroup Carried (length t) a) n
   pub counted : programs ≡ count (hasBit mask) n + m
 
-module _ {image t a fresh : List ℕ} {n m mask programs : ℕ} (k : Chosen image t a fresh n m mask programs) where
+module _ {image t g a fresh : List ℕ} {n m mask programs : ℕ} (k : Chosen image t g a fresh n m mask programs) where
   pub chosen-sources : Sources image n mask fresh m programs
   chosen-sources =
-      let p = lent-shows image t a fresh (k .lent) in
+      let p = lent-shows image t g a fresh (k .lent) in
       let old = good-source image (p .0 .accepted) n (k .n-is) mask in
       let new = good-source fresh (p .1) m (k .m-is) _ in
       record { old = old; new = new; counted = k .counted; few = omega (arith, k .counted, count-le (hasBit mask) n, old .few, new .few) }
@@ -40,7 +40,7 @@ module _ {image t a fresh : List ℕ} {n m mask programs : ℕ} (k : Chosen imag
 
   -- r is what the checks 11 and 10 answer
   module _ (out : List ℕ) {r : Refusal} (says : r ≡ sizeRefusal programs (imageFrom image n mask fresh m) out) where
-    pub chosen-size : r ≡ nextRefusal image t a fresh out
+    pub chosen-size : r ≡ nextRefusal image t g a fresh out
     unfolding nextRefusal
     chosen-size =
         let many : programs ≡ carriedCount (length t) (countOf image) a + countOf fresh =
@@ -52,5 +52,5 @@ module _ {image t a fresh : List ℕ} {n m mask programs : ℕ} (k : Chosen imag
       pub chosen-fits : length (imageFrom image n mask fresh m) ≤ length out
       chosen-fits = size-shows programs (imageFrom image n mask fresh m) out (number-of (sym says) ∙ none) .1
 
-      pub chosen-done : {s : ℕ} {out′ : List ℕ} → Wrote out 0 (imageFrom image n mask fresh m) out′ s → NextSays image t a fresh out (Length s) out′
-      chosen-done {s} {out′} w = next-done image t a fresh out r chosen-size none (subst (λ (i : List ℕ). Wrote out 0 i out′ s) image-is w)
+      pub chosen-done : {s : ℕ} {out′ : List ℕ} → Wrote out 0 (imageFrom image n mask fresh m) out′ s → NextSays image t g a fresh out (Length s) out′
+      chosen-done {s} {out′} w = next-done image t g a fresh out r chosen-size none (subst (λ (i : List ℕ). Wrote out 0 i out′ s) image-is w)

@@ -22,9 +22,9 @@ use Rattle.carry.proofs.Checks.{NextShows, next-shows}
 
 -- ---- the next image
 
-module _ (image t a fresh out : List ℕ) (none : nextRefusal image t a fresh out .number ≡ 0) where
-  shown : NextShows image t a fresh out
-  shown = next-shows image t a fresh out none
+module _ (image t g a fresh out : List ℕ) (none : nextRefusal image t g a fresh out .number ≡ 0) where
+  shown : NextShows image t g a fresh out
+  shown = next-shows image t g a fresh out none
 
   abbrev programs : List (List ℕ)
   programs = nextPrograms (length t) image a fresh

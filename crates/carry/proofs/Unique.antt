@@ -10,7 +10,7 @@ use Rattle.carry.proofs.next_image.Kinds as next-image-kinds
 use Rattle.carry.proofs.next_image.Reads as next-image
 
 -- the answer, and what the output holds at the exit
-pub next-image-unique : Unique {A = Next × List ℕ} 5 next-image-kinds.ps next-image-kinds.r (λ κs x s. (x, now (s .1 .1 .1 .1 .0))) next-image.Post
+pub next-image-unique : Unique {A = Next × List ℕ} 6 next-image-kinds.ps next-image-kinds.r (λ κs x s. (x, now (s .1 .1 .1 .1 .1 .0))) next-image.Post
 next-image-unique κs a x y s t p q = cc
 
 pub write-next-unique : Unique {A = ℕ × List ℕ} 3 write-next-kinds.ps write-next-kinds.r (λ κs x s. (x, now (s .1 .1 .1 .1 .1 .1 .0))) write-next.Post

@@ -33,8 +33,8 @@ unfoldable pub nextImage : ℕ → List ℕ → List ℕ → List ℕ → List �
 nextImage T image a fresh = imageOf (ruleByte fresh) (nextPrograms T image a fresh)
 
 -- "Checks go .. for the next image: 1 to 7, 9, 21 to 24, 11, 10." First what is lent,
-unfoldable pub lentRefusal : List ℕ → List ℕ → List ℕ → List ℕ → Refusal
-lentRefusal image t a fresh = after (endedRefusal image t a) (freshRefusalOf fresh)
+unfoldable pub lentRefusal : (image t g a : List ℕ) → List ℕ → Refusal
+lentRefusal image t g a fresh = after (endedRefusal image t g a) (freshRefusalOf fresh)
 
 -- then how large the next image is: 11, "carried plus fresh over 64"; 10, "output shorter than the next image"
 unfoldable pub sizeRefusal : ℕ → List ℕ → List ℕ → Refusal
@@ -43,19 +43,19 @@ sizeRefusal programs next out =
     (check (leb (length next) (length out)) refusal.tooShort
     refusal.none)
 
-unfoldable pub nextRefusal : List ℕ → List ℕ → List ℕ → List ℕ → List ℕ → Refusal
-nextRefusal image t a fresh out =
-    after (lentRefusal image t a fresh)
+unfoldable pub nextRefusal : (image t g a : List ℕ) → List ℕ → List ℕ → Refusal
+nextRefusal image t g a fresh out =
+    after (lentRefusal image t g a fresh)
     (sizeRefusal (carriedCount (length t) (countOf image) a + countOf fresh) (nextImage (length t) image a fresh) out)
 
-unfoldable pub nextAnswer : List ℕ → List ℕ → List ℕ → List ℕ → List ℕ → Next
-nextAnswer image t a fresh out =
-    unless (nextRefusal image t a fresh out) Refused (Length (length (nextImage (length t) image a fresh)))
+unfoldable pub nextAnswer : (image t g a : List ℕ) → List ℕ → List ℕ → Next
+nextAnswer image t g a fresh out =
+    unless (nextRefusal image t g a fresh out) Refused (Length (length (nextImage (length t) image a fresh)))
 
 -- "the output beyond the image .. untouched"
-unfoldable pub nextOut : List ℕ → List ℕ → List ℕ → List ℕ → List ℕ → List ℕ
-nextOut image t a fresh out =
-    unless (nextRefusal image t a fresh out) (λ r. out)
+unfoldable pub nextOut : (image t g a : List ℕ) → List ℕ → List ℕ → List ℕ
+nextOut image t g a fresh out =
+    unless (nextRefusal image t g a fresh out) (λ r. out)
     (nextImage (length t) image a fresh ++ drop (length (nextImage (length t) image a fresh)) out)
 
 -- the numbers of an answer
@@ -64,6 +64,6 @@ numbersOfNext (Refused r) = noCount r
 numbersOfNext (Length k) = counted k
 
 -- The contract of the call.
-pub record NextSays (image t a fresh out : List ℕ) (r : Next) (out′ : List ℕ) : Type 0 where
-  pub answer : r ≡ nextAnswer image t a fresh out
-  pub bytes : out′ ≡ nextOut image t a fresh out
+pub record NextSays (image t g a fresh out : List ℕ) (r : Next) (out′ : List ℕ) : Type 0 where
+  pub answer : r ≡ nextAnswer image t g a fresh out
+  pub bytes : out′ ≡ nextOut image t g a fresh out

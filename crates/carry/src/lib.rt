@@ -48,10 +48,16 @@ pub fn write_next(
 }
 
 // Checks 1 to 7, 9, 21 to 24.
-fn lent_refusal(image: &[u8], table: &[u32], area: &[u32], fresh: &[u8]) -> image::Refusal
-    ensures { λ r. ⌜ r ≡ lentRefusal (now (image .entry)) (now (table .entry)) (now (area .entry)) (now (fresh .entry)) ⌝ }
+fn lent_refusal(
+    image: &[u8],
+    table: &[u32],
+    guards: &[u32],
+    area: &[u32],
+    fresh: &[u8],
+) -> image::Refusal
+    ensures { λ r. ⌜ r ≡ lentRefusal (now (image .entry)) (now (table .entry)) (now (guards .entry)) (now (area .entry)) (now (fresh .entry)) ⌝ }
 {
-    let refused = area::ended_refusal(image, table, area);
+    let refused = area::ended_refusal(image, table, guards, area);
     if refused.number != 0 {
         return refused;
     }
@@ -81,10 +87,17 @@ fn size_refusal(
 }
 
 // The next image: its length, and its bytes at the front of the output.
-pub fn next_image(image: &[u8], table: &[u32], area: &[u32], fresh: &[u8], out: &mut [u8]) -> Next
-    ensures { λ r. ⌜ NextSays (now (image .entry)) (now (table .entry)) (now (area .entry)) (now (fresh .entry)) (now (out .entry)) r (now (out .exit)) ⌝ }
+pub fn next_image(
+    image: &[u8],
+    table: &[u32],
+    guards: &[u32],
+    area: &[u32],
+    fresh: &[u8],
+    out: &mut [u8],
+) -> Next
+    ensures { λ r. ⌜ NextSays (now (image .entry)) (now (table .entry)) (now (guards .entry)) (now (area .entry)) (now (fresh .entry)) (now (out .entry)) r (now (out .exit)) ⌝ }
 {
-    let refused = lent_refusal(image, table, area, fresh);
+    let refused = lent_refusal(image, table, guards, area, fresh);
     if refused.number != 0 {
         return Next::Refused(refused);
     }

@@ -5,6 +5,7 @@ use mathlib.Core.Path.{_≡_, refl}
 use mathlib.Core.List.{List, [], _∷_, map}
 use Rattle.image.specs.Refusals.{refusing}
 use Rattle.image.specs.Assembler.{image}
+use Rattle.guard.specs.Guards.{fullFor}
 use Rattle.area.specs.Sketch.{slot, area}
 use Rattle.causes.specs.declared.answers.Cause.{Cause}
 use Rattle.causes.specs.declared.answers.Why.{Why}
@@ -38,7 +39,7 @@ table = 8 ∷ 8 ∷ 8 ∷ 8 ∷ 8 ∷ []
 
 -- why it was carried for a reason, under a rule byte
 abbrev why : (rule detail : ℕ) → (writes reads : List ℕ) → Why
-why rule detail writes reads = whyAnswer (three rule) table (standing 5 detail writes reads) 2
+why rule detail writes reads = whyAnswer (three rule) table (fullFor table) (standing 5 detail writes reads) 2
 
 abbrev none : List ℕ
 none = 0 ∷ 0 ∷ 0 ∷ 0 ∷ 0 ∷ []
@@ -96,7 +97,7 @@ numbers = refl
 -- ---- before whom a program comes: RAW with its cause, of a program in whatever end
 
 abbrev before-whom : (state : ℕ) → (writes reads : List ℕ) → Before
-before-whom state writes reads = beforeAnswer (three 2) table (standing state 0 writes reads) 2
+before-whom state writes reads = beforeAnswer (three 2) table (fullFor table) (standing state 0 writes reads) 2
 
 raw-or-nobody : before-whom 4 (0 ∷ 2 ∷ 0 ∷ 0 ∷ 1 ∷ []) none ∷ before-whom 4 (0 ∷ 3 ∷ 0 ∷ 0 ∷ 0 ∷ []) none ∷ before-whom 5 (1 ∷ 0 ∷ 0 ∷ 0 ∷ 1 ∷ []) none ∷ []
     ≡ before.Program (at 1 1) ∷ before.Nobody ∷ before.Program (at 4 0) ∷ []
@@ -105,10 +106,10 @@ raw-or-nobody = refl
 
 -- ---- the calls' own words
 
-why-says : WhySays (three 1) table (standing 5 1 (1 ∷ 0 ∷ 0 ∷ 0 ∷ 0 ∷ []) none) 2 (Waw (at 0 0))
+why-says : WhySays (three 1) table (fullFor table) (standing 5 1 (1 ∷ 0 ∷ 0 ∷ 0 ∷ 0 ∷ []) none) 2 (Waw (at 0 0))
 unfolding opened
 why-says = record { answer = refl }
 
-before-says : BeforeSays (three 2) table (standing 4 0 (0 ∷ 0 ∷ 0 ∷ 0 ∷ 2 ∷ []) none) 2 (before.Program (at 4 1))
+before-says : BeforeSays (three 2) table (fullFor table) (standing 4 0 (0 ∷ 0 ∷ 0 ∷ 0 ∷ 2 ∷ []) none) 2 (before.Program (at 4 1))
 unfolding opened
 before-says = record { answer = refl }

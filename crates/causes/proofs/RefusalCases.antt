@@ -1,7 +1,7 @@
 -- Document 02, ask 3, "Refusals, in order", tried by computation: each row on both its sides, and each before the next. Assumes nothing.
 use Prim.Native.Nat.{ℕ}
 use mathlib.Core.Path.{_≡_, refl}
-use mathlib.Core.List.{List, [], _∷_, map}
+use mathlib.Core.List.{List, [], _∷_, _++_, map}
 use Rattle.image.specs.Refusals.{refusing}
 use Rattle.image.specs.Assembler.{image}
 use Rattle.area.specs.Sketch.{slot, area}
@@ -17,20 +17,25 @@ two rule = image rule ([] ∷ [] ∷ [])
 abbrev standing : (other state detail : ℕ) → List ℕ
 standing other state detail = area (1 ∷ []) (2 ∷ []) (slot other 0 [] (0 ∷ []) (60 ∷ []) ∷ slot state detail (0 ∷ []) [] [] ∷ [])
 
+-- the cell's guard; it is open to no store, which does not matter any more
+abbrev guards : List ℕ
+guards = 1 ∷ 0 ∷ []
+
 -- of program k
 abbrev asked : (rule other state detail k : ℕ) → ℕ
-asked rule other state detail k = whyRefusal (two rule) (8 ∷ []) (standing other state detail) k .number
+asked rule other state detail k = whyRefusal (two rule) (8 ∷ []) guards (standing other state detail) k .number
 
 -- done; "as for settling up to 8": one of each check before, and a number of n
 first-eight :
     asked 1 4 5 2 1
-    ∷ whyRefusal (two 3) (8 ∷ []) (standing 4 5 2) 1 .number
-    ∷ whyRefusal (two 1) [] (standing 4 5 2) 1 .number
-    ∷ whyRefusal (two 1) (8 ∷ 8 ∷ []) (standing 4 5 2) 1 .number
+    ∷ whyRefusal (two 3) (8 ∷ []) guards (standing 4 5 2) 1 .number
+    ∷ whyRefusal (two 1) [] guards (standing 4 5 2) 1 .number
+    ∷ whyRefusal (two 1) (8 ∷ 8 ∷ []) guards (standing 4 5 2) 1 .number
+    ∷ whyRefusal (two 1) (8 ∷ 8 ∷ []) (guards ++ guards) (standing 4 5 2) 1 .number
     ∷ asked 1 6 5 2 1
     ∷ asked 1 4 5 2 2
     ∷ []
-    ≡ 0 ∷ 2 ∷ 5 ∷ 6 ∷ 7 ∷ 8 ∷ []
+    ≡ 0 ∷ 2 ∷ 5 ∷ 14 ∷ 6 ∷ 7 ∷ 8 ∷ []
 unfolding opened
 first-eight = refl
 
@@ -63,7 +68,7 @@ unfolding opened
 by-the-rule = refl
 
 -- "also where they give none": program 0 has nobody before it, with any detail
-no-reason : map (λ detail. whyRefusal (two 1) (8 ∷ []) (area (1 ∷ []) (2 ∷ []) (slot 5 detail [] (0 ∷ []) (60 ∷ []) ∷ slot 4 0 [] [] [] ∷ [])) 0 .number) (0 ∷ 1 ∷ 2 ∷ 3 ∷ [])
+no-reason : map (λ detail. whyRefusal (two 1) (8 ∷ []) guards (area (1 ∷ []) (2 ∷ []) (slot 5 detail [] (0 ∷ []) (60 ∷ []) ∷ slot 4 0 [] [] [] ∷ [])) 0 .number) (0 ∷ 1 ∷ 2 ∷ 3 ∷ [])
     ≡ 15 ∷ 15 ∷ 15 ∷ 15 ∷ []
 unfolding opened
 no-reason = refl
@@ -73,20 +78,20 @@ unfolding opened
 thirteen-before-fifteen = refl
 
 -- "A refusal returns its number"
-refused : whyAnswer (two 1) (8 ∷ []) (standing 4 4 0) 1 ∷ whyAnswer (two 1) (8 ∷ []) (standing 4 5 1) 1 ∷ whyAnswer (two 1) (8 ∷ []) (standing 4 5 2) 1 ∷ []
+refused : whyAnswer (two 1) (8 ∷ []) guards (standing 4 4 0) 1 ∷ whyAnswer (two 1) (8 ∷ []) guards (standing 4 5 1) 1 ∷ whyAnswer (two 1) (8 ∷ []) guards (standing 4 5 2) 1 ∷ []
     ≡ Refused (refusing 13) ∷ Refused (refusing 15) ∷ Raw (record { cell = 0; program = 0 }) ∷ []
 unfolding opened
 refused = refl
 
 -- before whom it comes: checks 1 to 9 and no more
 before-refused :
-    map (λ k. askRefusal (two 1) (8 ∷ []) (standing 4 4 0) k .number) (0 ∷ 1 ∷ 2 ∷ [])
-    ∷ map (λ other. askRefusal (two 1) (8 ∷ []) (standing other 4 0) 1 .number) (0 ∷ 1 ∷ 2 ∷ [])
+    map (λ k. askRefusal (two 1) (8 ∷ []) guards (standing 4 4 0) k .number) (0 ∷ 1 ∷ 2 ∷ [])
+    ∷ map (λ other. askRefusal (two 1) (8 ∷ []) guards (standing other 4 0) 1 .number) (0 ∷ 1 ∷ 2 ∷ [])
     ∷ []
     ≡ (0 ∷ 0 ∷ 8 ∷ []) ∷ (9 ∷ 9 ∷ 0 ∷ []) ∷ []
 unfolding opened
 before-refused = refl
 
-refused-before : beforeAnswer (two 1) (8 ∷ []) (standing 1 4 0) 1 ≡ before.Refused (refusing 9)
+refused-before : beforeAnswer (two 1) (8 ∷ []) guards (standing 1 4 0) 1 ≡ before.Refused (refusing 9)
 unfolding opened
 refused-before = refl

@@ -13,16 +13,16 @@ use Rattle.steps.specs.Gathering.{stepRefusal}
 use Rattle.steps.proofs.Refusals.{step-shows}
 use Rattle.causes.specs.Why.{askRefusal, carriedRefusal}
 
-module _ (image t a : List ℕ) (k : ℕ) where
-  pub ask-shows : askRefusal image t a k .number ≡ 0 → Checked image t a × (k < countOf image)
+module _ (image t g a : List ℕ) (k : ℕ) where
+  pub ask-shows : askRefusal image t g a k .number ≡ 0 → Checked image t a × (k < countOf image)
   unfolding askRefusal
-  ask-shows e = step-shows image t a k (none-after (stepRefusal image t a k) _ e .0)
+  ask-shows e = step-shows image t g a k (none-after (stepRefusal image t g a k) _ e .0)
 
-  pub carried-shows : carriedRefusal image t a k .number ≡ 0 → Checked image t a × (k < countOf image)
+  pub carried-shows : carriedRefusal image t g a k .number ≡ 0 → Checked image t a × (k < countOf image)
   unfolding carriedRefusal
-  carried-shows e = ask-shows (none-after (askRefusal image t a k) _ e .0)
+  carried-shows e = ask-shows (none-after (askRefusal image t g a k) _ e .0)
 
   -- where all of them pass
-  pub ask-passes : callRefusal image t a .number ≡ 0 → k < countOf image → allEnded (length t) (countOf image) a ≡ true → refusal.none ≡ askRefusal image t a k
+  pub ask-passes : callRefusal image t g a .number ≡ 0 → k < countOf image → allEnded (length t) (countOf image) a ≡ true → refusal.none ≡ askRefusal image t g a k
   unfolding askRefusal stepRefusal
   ask-passes e l ended = first-passes (first-passes refl e (goes-on _ (lt-ltb _ _ l) refl)) refl (goes-on _ ended refl)

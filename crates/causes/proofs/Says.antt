@@ -66,29 +66,29 @@ module _ (image t a : List ℕ) (k : ℕ) (j : Verdict) (found : j ≡ withCells
             ∙ (told-same (verdict image (length t) k a) (length t) k a ∙ the-reason (verdict image (length t) k a) (length t) k a (e ∙ detail-left)));
       }
 
-module _ (image t a : List ℕ) (k : ℕ) (r : Refusal) (e : r ≡ carriedRefusal image t a k) where
-  pub why-refused : (r .number ≡ 0 → ⊥) → WhySays image t a k (why.Refused r)
+module _ (image t g a : List ℕ) (k : ℕ) (r : Refusal) (e : r ≡ carriedRefusal image t g a k) where
+  pub why-refused : (r .number ≡ 0 → ⊥) → WhySays image t g a k (why.Refused r)
   unfolding whyAnswer whyRefusal
   why-refused h = record { answer = refused-as why.Refused _ (first-refuses _ e h) h }
 
   -- where the checks up to 13 pass, 15 decides
-  pub why-done : r .number ≡ 0 → (x : Why) → Explains image t a k x → WhySays image t a k x
+  pub why-done : r .number ≡ 0 → (x : Why) → Explains image t a k x → WhySays image t g a k x
   unfolding whyAnswer whyRefusal holdsReason answerFor
   why-done h x w =
       record {
         answer =
             w .answer
-            ∙ last-decides (carriedRefusal image t a k) refusal.reason (holdsReason image (length t) k a) why.Refused
+            ∙ last-decides (carriedRefusal image t g a k) refusal.reason (holdsReason image (length t) k a) why.Refused
             (explainedBy (verdict image (length t) k a) (length t) k a) (number-of (sym e) ∙ h) (λ z. omega arith);
       }
 
 -- ---- before whom
 
-module _ (image t a : List ℕ) (k : ℕ) (r : Refusal) (e : r ≡ askRefusal image t a k) where
-  pub before-refused : (r .number ≡ 0 → ⊥) → BeforeSays image t a k (before.Refused r)
+module _ (image t g a : List ℕ) (k : ℕ) (r : Refusal) (e : r ≡ askRefusal image t g a k) where
+  pub before-refused : (r .number ≡ 0 → ⊥) → BeforeSays image t g a k (before.Refused r)
   unfolding beforeAnswer
   before-refused h = record { answer = refused-as before.Refused _ e h }
 
-  pub before-done : r .number ≡ 0 → (x : Before) → x ≡ beforeOf (length t) k a → BeforeSays image t a k x
+  pub before-done : r .number ≡ 0 → (x : Before) → x ≡ beforeOf (length t) k a → BeforeSays image t g a k x
   unfolding beforeAnswer
   before-done h x f = record { answer = done-as before.Refused e h f }

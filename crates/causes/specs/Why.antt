@@ -54,32 +54,32 @@ isReason (settled.Carried reason) detail = eqb detail (reasonNumber reason)
 -- ---- the checks, in their order
 
 -- "as for settling up to 8; 9 while any state is 0 or 1"
-unfoldable pub askRefusal : List ℕ → List ℕ → List ℕ → ℕ → Refusal
-askRefusal image t a k = after (stepRefusal image t a k) (check (allEnded (length t) (countOf image) a) refusal.state refusal.none)
+unfoldable pub askRefusal : (image t g a : List ℕ) → ℕ → Refusal
+askRefusal image t g a k = after (stepRefusal image t g a k) (check (allEnded (length t) (countOf image) a) refusal.state refusal.none)
 
 -- "13 this program is not carried"
-unfoldable pub carriedRefusal : List ℕ → List ℕ → List ℕ → ℕ → Refusal
-carriedRefusal image t a k = after (askRefusal image t a k) (check (inGroup Carried (length t) a k) refusal.notCarried refusal.none)
+unfoldable pub carriedRefusal : (image t g a : List ℕ) → ℕ → Refusal
+carriedRefusal image t g a k = after (askRefusal image t g a k) (check (inGroup Carried (length t) a k) refusal.notCarried refusal.none)
 
 -- and then 15
 unfoldable pub holdsReason : List ℕ → ℕ → ℕ → List ℕ → Bool
 holdsReason image T k a = isReason (verdict image T k a) (detailOf T k a)
 
-unfoldable pub whyRefusal : List ℕ → List ℕ → List ℕ → ℕ → Refusal
-whyRefusal image t a k = after (carriedRefusal image t a k) (check (holdsReason image (length t) k a) refusal.reason refusal.none)
+unfoldable pub whyRefusal : (image t g a : List ℕ) → ℕ → Refusal
+whyRefusal image t g a k = after (carriedRefusal image t g a k) (check (holdsReason image (length t) k a) refusal.reason refusal.none)
 
 -- ---- what the call answers
 
-unfoldable pub whyAnswer : List ℕ → List ℕ → List ℕ → ℕ → Why
-whyAnswer image t a k = unless (whyRefusal image t a k) why.Refused (explainedBy (verdict image (length t) k a) (length t) k a)
+unfoldable pub whyAnswer : (image t g a : List ℕ) → ℕ → Why
+whyAnswer image t g a k = unless (whyRefusal image t g a k) why.Refused (explainedBy (verdict image (length t) k a) (length t) k a)
 
 -- the same where the checks up to 13 have been made: the decision's reason with its cause, or 15
 unfoldable pub answerFor : Settled → ℕ → ℕ → List ℕ → Why
 answerFor v T k a = cond (isReason v (detailOf T k a)) (explainedBy v T k a) (why.Refused refusal.reason)
 
 -- The contract of the call.
-pub record WhySays (image t a : List ℕ) (k : ℕ) (r : Why) : Type 0 where
-  pub answer : r ≡ whyAnswer image t a k
+pub record WhySays (image t g a : List ℕ) (k : ℕ) (r : Why) : Type 0 where
+  pub answer : r ≡ whyAnswer image t g a k
 
 -- The same where the checks have been made.
 pub record Explains (image t a : List ℕ) (k : ℕ) (r : Why) : Type 0 where
@@ -124,12 +124,12 @@ numbersOfWhy (why.RawWithWar cause war) = numbersFor reason.RawWithWar cause war
 unfoldable pub beforeOf : ℕ → ℕ → List ℕ → Before
 beforeOf T k a = cond (raw T k a) (before.Program (rawCause T k a)) before.Nobody
 
-unfoldable pub beforeAnswer : List ℕ → List ℕ → List ℕ → ℕ → Before
-beforeAnswer image t a k = unless (askRefusal image t a k) before.Refused (beforeOf (length t) k a)
+unfoldable pub beforeAnswer : (image t g a : List ℕ) → ℕ → Before
+beforeAnswer image t g a k = unless (askRefusal image t g a k) before.Refused (beforeOf (length t) k a)
 
 -- The contract of the call.
-pub record BeforeSays (image t a : List ℕ) (k : ℕ) (r : Before) : Type 0 where
-  pub answer : r ≡ beforeAnswer image t a k
+pub record BeforeSays (image t g a : List ℕ) (k : ℕ) (r : Before) : Type 0 where
+  pub answer : r ≡ beforeAnswer image t g a k
 
 -- ---- what the functions need and leave
 

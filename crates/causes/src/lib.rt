@@ -56,10 +56,16 @@ pub fn why_checked(image: &[u8], table: &[u32], area: &[u32], number: usize) -> 
 }
 
 // Checks 1 to 9 of a question about one program of a batch that has ended.
-fn ask_refusal(image: &[u8], table: &[u32], area: &[u32], number: usize) -> image::Refusal
-    ensures { λ r. ⌜ r ≡ askRefusal (now (image .entry)) (now (table .entry)) (now (area .entry)) number ⌝ }
+fn ask_refusal(
+    image: &[u8],
+    table: &[u32],
+    guards: &[u32],
+    area: &[u32],
+    number: usize,
+) -> image::Refusal
+    ensures { λ r. ⌜ r ≡ askRefusal (now (image .entry)) (now (table .entry)) (now (guards .entry)) (now (area .entry)) number ⌝ }
 {
-    let refused = steps::step_refusal(image, table, area, number);
+    let refused = steps::step_refusal(image, table, guards, area, number);
     if refused.number != 0 {
         return refused;
     }
@@ -70,10 +76,16 @@ fn ask_refusal(image: &[u8], table: &[u32], area: &[u32], number: usize) -> imag
 }
 
 // And 13.
-fn carried_refusal(image: &[u8], table: &[u32], area: &[u32], number: usize) -> image::Refusal
-    ensures { λ r. ⌜ r ≡ carriedRefusal (now (image .entry)) (now (table .entry)) (now (area .entry)) number ⌝ }
+fn carried_refusal(
+    image: &[u8],
+    table: &[u32],
+    guards: &[u32],
+    area: &[u32],
+    number: usize,
+) -> image::Refusal
+    ensures { λ r. ⌜ r ≡ carriedRefusal (now (image .entry)) (now (table .entry)) (now (guards .entry)) (now (area .entry)) number ⌝ }
 {
-    let refused = ask_refusal(image, table, area, number);
+    let refused = ask_refusal(image, table, guards, area, number);
     if refused.number != 0 {
         return refused;
     }
@@ -85,10 +97,10 @@ fn carried_refusal(image: &[u8], table: &[u32], area: &[u32], number: usize) -> 
 }
 
 // Why a program of a settled batch was carried: the reason with its cause.
-pub fn why(image: &[u8], table: &[u32], area: &[u32], number: usize) -> Why
-    ensures { λ r. ⌜ WhySays (now (image .entry)) (now (table .entry)) (now (area .entry)) number r ⌝ }
+pub fn why(image: &[u8], table: &[u32], guards: &[u32], area: &[u32], number: usize) -> Why
+    ensures { λ r. ⌜ WhySays (now (image .entry)) (now (table .entry)) (now (guards .entry)) (now (area .entry)) number r ⌝ }
 {
-    let refused = carried_refusal(image, table, area, number);
+    let refused = carried_refusal(image, table, guards, area, number);
     if refused.number != 0 {
         return Why::Refused(refused);
     }
@@ -110,10 +122,16 @@ fn before_whom(area: &[u32], cells: usize, number: usize) -> Before
 }
 
 // Before whom a program of a settled batch comes: it read a cell as it was, which an earlier program stores.
-pub fn comes_before(image: &[u8], table: &[u32], area: &[u32], number: usize) -> Before
-    ensures { λ r. ⌜ BeforeSays (now (image .entry)) (now (table .entry)) (now (area .entry)) number r ⌝ }
+pub fn comes_before(
+    image: &[u8],
+    table: &[u32],
+    guards: &[u32],
+    area: &[u32],
+    number: usize,
+) -> Before
+    ensures { λ r. ⌜ BeforeSays (now (image .entry)) (now (table .entry)) (now (guards .entry)) (now (area .entry)) number r ⌝ }
 {
-    let refused = ask_refusal(image, table, area, number);
+    let refused = ask_refusal(image, table, guards, area, number);
     if refused.number != 0 {
         return Before::Refused(refused);
     }

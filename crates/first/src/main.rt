@@ -14,10 +14,13 @@ fn print(text: &[u8], number: u32) {
     io::write_all(1, b"\n");
 }
 
+// The guards: the set point stays between -20 and 45, and the copy may be any number. -20 is written as 2^32 - 20.
+const GUARDS: [u32; 4] = [4294967276, 45, sheetbendle::LOWEST, sheetbendle::HIGHEST];
+
 // Both programs are committed, so the list is full: as if the first had run, and then the other.
 fn print_order(table: &[u32], area: &[u32]) {
     let mut list = [0u32; 2];
-    match sheetbendle::order(&IMAGE, table, area, &mut list) {
+    match sheetbendle::order(&IMAGE, table, &GUARDS, area, &mut list) {
         sheetbendle::Listed::Refused(refusal) => print(b"refused ", refusal.number),
         sheetbendle::Listed::Count(_) => {
             print(b"first program ", list[0]);
@@ -32,15 +35,15 @@ fn main() {
     let mut room = [0u32; sheetbendle::AREA_WORDS];
     let words = sheetbendle::area_words(2, 2);
     let area = &mut room[0..words];
-    let refused = sheetbendle::open(&IMAGE, &table, area);
+    let refused = sheetbendle::open(&IMAGE, &table, &GUARDS, area);
     if refused.number != 0 {
         print(b"refused ", refused.number);
         return;
     }
-    sheetbendle::gather(&IMAGE, &table, area, 0);
-    sheetbendle::gather(&IMAGE, &table, area, 1);
-    sheetbendle::settle(&IMAGE, &mut table, area, 0);
-    sheetbendle::settle(&IMAGE, &mut table, area, 1);
+    sheetbendle::gather(&IMAGE, &table, &GUARDS, area, 0);
+    sheetbendle::gather(&IMAGE, &table, &GUARDS, area, 1);
+    sheetbendle::settle(&IMAGE, &mut table, &GUARDS, area, 0);
+    sheetbendle::settle(&IMAGE, &mut table, &GUARDS, area, 1);
     print_order(&table, area);
     print(b"set point ", table[0]);
     print(b"beacon's copy ", table[1]);

@@ -8,6 +8,7 @@ use Rattle.image.specs.declared.Refusal.{Refusal}
 use Rattle.image.specs.Refusals.{refusing, Counted, noCount, counted}
 use Rattle.image.specs.Assembler.{joined, image}
 use Rattle.image.specs.Bench.{x, y, z}
+use Rattle.guard.specs.Guards.{fullFor}
 use Rattle.slot.specs.declared.Group.the-variants.{Committed}
 use Rattle.slot.specs.Log.{layout}
 use Rattle.area.specs.Layout.{inGroup}
@@ -43,7 +44,7 @@ table = 50 ∷ 51 ∷ 52 ∷ []
 
 -- the numbers that the call returns, refusal and count, and the list that it leaves
 abbrev pub called : (image table area list : List ℕ) → Counted × List ℕ
-called image t a list = (numbersOfListed (orderAnswer image t a list), orderList image t a list)
+called image t a list = (numbersOfListed (orderAnswer image t (fullFor t) a list), orderList image t (fullFor t) a list)
 
 abbrev pub done : ℕ → List ℕ → Counted × List ℕ
 done count list = (counted count, list)

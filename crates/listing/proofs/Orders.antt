@@ -24,16 +24,16 @@ use Rattle.listing.specs.Listing.{orderAnswer, orderList, OrderSays, ove
 use Rattle.listing.specs.Masks.{Slots}
 use Rattle.listing.proofs.Knots.{listed-order, listed-stuck}
 
-module _ (image t a list : List ℕ) where
+module _ (image t g a list : List ℕ) where
   -- what no refusal of checks 1 to 10 shows
-  pub list-shows : listRefusal image t a list .number ≡ 0 → Checked image t a × (countOf image ≤ length list)
+  pub list-shows : listRefusal image t g a list .number ≡ 0 → Checked image t a × (countOf image ≤ length list)
   unfolding listRefusal endedRefusal
   list-shows e =
-      let w = none-after (endedRefusal image t a) _ e in
+      let w = none-after (endedRefusal image t g a) _ e in
       let r = none-fails (leb (countOf image) (length list)) refusal.tooShort _ (λ z. omega arith) (w .1) in
-      (checked image t a (none-after (callRefusal image t a) _ (w .0) .0), leb-true _ _ (r .0))
+      (checked image t g a (none-after (callRefusal image t g a) _ (w .0) .0), leb-true _ _ (r .0))
 
-  pub list-ready : listRefusal image t a list .number ≡ 0 → (n : ℕ) → n ≡ countOf image → Measured (length t) n a × Slots a (length t) n × (n ≤ length list)
+  pub list-ready : listRefusal image t g a list .number ≡ 0 → (n : ℕ) → n ≡ countOf image → Measured (length t) n a × Slots a (length t) n × (n ≤ length list)
   list-ready e n q =
       let s = list-shows e in (
         measured image t a (s .0) n q,
@@ -43,20 +43,20 @@ module _ (image t a list : List ℕ) where
 
   -- ---- what the call answers and leaves
 
-  pub order-refused : (r : Refusal) → r ≡ listRefusal image t a list → (r .number ≡ 0 → ⊥) → OrderSays image t a list (Refused r) list
+  pub order-refused : (r : Refusal) → r ≡ listRefusal image t g a list → (r .number ≡ 0 → ⊥) → OrderSays image t g a list (Refused r) list
   unfolding orderAnswer orderList orderRefusal
   order-refused r e h =
       let f = first-refuses (check (orderExists (length t) (countOf image) a) refusal.noOrder refusal.none) e h in
       record { answer = refused-as Refused _ f h; entries = refused-as (λ r. list) _ f h }
 
   -- where checks 1 to 10 pass, 12 decides
-  twelve : {A : Type 0} (refused : Refusal → A) (done : A) → listRefusal image t a list .number ≡ 0
-      → cond (orderExists (length t) (countOf image) a) done (refused refusal.noOrder) ≡ unless (orderRefusal image t a list) refused done
+  twelve : {A : Type 0} (refused : Refusal → A) (done : A) → listRefusal image t g a list .number ≡ 0
+      → cond (orderExists (length t) (countOf image) a) done (refused refusal.noOrder) ≡ unless (orderRefusal image t g a list) refused done
   unfolding orderRefusal
-  twelve refused done e = last-decides (listRefusal image t a list) refusal.noOrder (orderExists (length t) (countOf image) a) refused done e (λ z. omega arith)
+  twelve refused done e = last-decides (listRefusal image t g a list) refusal.noOrder (orderExists (length t) (countOf image) a) refused done e (λ z. omega arith)
 
-  pub order-done : listRefusal image t a list .number ≡ 0 → (n : ℕ) → n ≡ countOf image → (r : Listed) (list′ : List ℕ) → Lists (length t) n a list r list′
-      → OrderSays image t a list r list′
+  pub order-done : listRefusal image t g a list .number ≡ 0 → (n : ℕ) → n ≡ countOf image → (r : Listed) (list′ : List ℕ) → Lists (length t) n a list r list′
+      → OrderSays image t g a list r list′
   unfolding orderAnswer orderList listedAnswer listedList
   order-done e n f r list′ s =
       record {

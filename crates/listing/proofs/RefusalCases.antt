@@ -3,10 +3,11 @@
 use Prim.Native.Nat.{ℕ}
 use mathlib.Core.Path.{_≡_, refl}
 use mathlib.Core.List.{List, [], _∷_, _++_, map}
-use lib.ListN.{take, set, replicate}
+use lib.ListN.{take, drop, set, replicate}
 use Rattle.image.specs.Refusals.{refusingAt, refusing, Counted}
 use Rattle.image.specs.Assembler.{instruction, end, program, image}
 use Rattle.image.specs.Bench.{x, y, z}
+use Rattle.guard.specs.Guards.{fullFor}
 use Rattle.listing.specs.declared.Listed.the-variants.{Refused, Count}
 use Rattle.listing.specs.Listing.{OrderSays}
 use Rattle.listing.specs.Opened.{opened}
@@ -95,9 +96,15 @@ row-order : called (take 5 (bad 3)) [] overmarked (9 ∷ [])
 unfolding opened
 row-order = refl
 
+-- 14 after 5, before 6: guards of a word too few, where the area has a word too many and all the rest is broken too
+guards-too-short : OrderSays (batch circle-of-two) table (drop 1 (fullFor table)) (overmarked ++ (0 ∷ [])) (9 ∷ []) (Refused (refusing 14)) (9 ∷ [])
+    × OrderSays (batch circle-of-two) [] (fullFor table) (overmarked ++ (0 ∷ [])) (9 ∷ []) (Refused (refusing 5)) (9 ∷ [])
+unfolding opened
+guards-too-short = (record { answer = refl; entries = refl }, record { answer = refl; entries = refl })
+
 -- what the call's contract says of all this
-order-says : OrderSays (batch (idle ∷ idle ∷ [])) table (area (idle ∷ idle ∷ [])) (6 ∷ 7 ∷ 8 ∷ []) (Count 2) (0 ∷ 1 ∷ 8 ∷ [])
-    × OrderSays (batch circle-of-two) table stuck (9 ∷ []) (Refused (refusing 10)) (9 ∷ [])
-    × OrderSays (batch circle-of-two) table stuck (9 ∷ 9 ∷ []) (Refused (refusing 12)) (9 ∷ 9 ∷ [])
+order-says : OrderSays (batch (idle ∷ idle ∷ [])) table (fullFor table) (area (idle ∷ idle ∷ [])) (6 ∷ 7 ∷ 8 ∷ []) (Count 2) (0 ∷ 1 ∷ 8 ∷ [])
+    × OrderSays (batch circle-of-two) table (fullFor table) stuck (9 ∷ []) (Refused (refusing 10)) (9 ∷ [])
+    × OrderSays (batch circle-of-two) table (fullFor table) stuck (9 ∷ 9 ∷ []) (Refused (refusing 12)) (9 ∷ 9 ∷ [])
 unfolding opened
 order-says = (record { answer = refl; entries = refl }, record { answer = refl; entries = refl }, record { answer = refl; entries = refl })

@@ -10,7 +10,7 @@ use Rattle.listing.proofs.order.Kinds as order-kinds
 use Rattle.listing.proofs.order.Reads as order
 
 -- the answer, and what the list holds at the exit
-pub order-unique : Unique {A = Listed × List ℕ} 4 order-kinds.ps order-kinds.r (λ κs x s. (x, now (s .1 .1 .1 .0))) order.Post
+pub order-unique : Unique {A = Listed × List ℕ} 5 order-kinds.ps order-kinds.r (λ κs x s. (x, now (s .1 .1 .1 .1 .0))) order.Post
 order-unique κs a x y s t p q = cc
 
 pub order-checked-unique : Unique {A = Listed × List ℕ} 2 order-checked-kinds.ps order-checked-kinds.r (λ κs x s. (x, now (s .1 .1 .1 .0))) order-checked.Post

@@ -31,23 +31,23 @@ unfoldable pub orderExists : ℕ → ℕ → List ℕ → Bool
 orderExists T n a = eqb (length (orderOf T n a)) (committedCount T n a)
 
 -- checks 1 to 7; 9, "Order, next image: some state 0 or 1"; 10, "order list under n entries"
-unfoldable pub listRefusal : List ℕ → List ℕ → List ℕ → List ℕ → Refusal
-listRefusal image t a list = after (endedRefusal image t a) (check (leb (countOf image) (length list)) refusal.tooShort refusal.none)
+unfoldable pub listRefusal : (image t g a : List ℕ) → List ℕ → Refusal
+listRefusal image t g a list = after (endedRefusal image t g a) (check (leb (countOf image) (length list)) refusal.tooShort refusal.none)
 
 -- and then 12, "no order exists"
-unfoldable pub orderRefusal : List ℕ → List ℕ → List ℕ → List ℕ → Refusal
-orderRefusal image t a list = after (listRefusal image t a list) (check (orderExists (length t) (countOf image) a) refusal.noOrder refusal.none)
+unfoldable pub orderRefusal : (image t g a : List ℕ) → List ℕ → Refusal
+orderRefusal image t g a list = after (listRefusal image t g a list) (check (orderExists (length t) (countOf image) a) refusal.noOrder refusal.none)
 
-unfoldable pub orderAnswer : List ℕ → List ℕ → List ℕ → List ℕ → Listed
-orderAnswer image t a list =
-    unless (orderRefusal image t a list) Refused (Count (length (orderOf (length t) (countOf image) a)))
+unfoldable pub orderAnswer : (image t g a : List ℕ) → List ℕ → Listed
+orderAnswer image t g a list =
+    unless (orderRefusal image t g a list) Refused (Count (length (orderOf (length t) (countOf image) a)))
 
 -- "The list beyond the committed count .. untouched": its first entries are the order
 abbrev pub overwritten : List ℕ → List ℕ → List ℕ
 overwritten new old = new ++ drop (length new) old
 
-unfoldable pub orderList : List ℕ → List ℕ → List ℕ → List ℕ → List ℕ
-orderList image t a list = unless (orderRefusal image t a list) (λ r. list) (overwritten (orderOf (length t) (countOf image) a) list)
+unfoldable pub orderList : (image t g a : List ℕ) → List ℕ → List ℕ
+orderList image t g a list = unless (orderRefusal image t g a list) (λ r. list) (overwritten (orderOf (length t) (countOf image) a) list)
 
 -- the numbers of an answer
 abbrev pub numbersOfListed : Listed → Counted
@@ -55,9 +55,9 @@ numbersOfListed (Refused r) = noCount r
 numbersOfListed (Count k) = counted k
 
 -- The contract of the call.
-pub record OrderSays (image t a list : List ℕ) (r : Listed) (list′ : List ℕ) : Type 0 where
-  pub answer : r ≡ orderAnswer image t a list
-  pub entries : list′ ≡ orderList image t a list
+pub record OrderSays (image t g a list : List ℕ) (r : Listed) (list′ : List ℕ) : Type 0 where
+  pub answer : r ≡ orderAnswer image t g a list
+  pub entries : list′ ≡ orderList image t g a list
 
 -- The same where checks 1 to 10 have been made: the order, or that there is none.
 unfoldable pub listedAnswer : ℕ → ℕ → List ℕ → Listed

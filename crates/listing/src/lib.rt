@@ -255,10 +255,16 @@ pub fn order_checked(area: &[u32], cells: usize, n: usize, list: &mut [u32]) -> 
 }
 
 // Checks 1 to 10.
-fn list_refusal(image: &[u8], table: &[u32], area: &[u32], list: &[u32]) -> image::Refusal
-    ensures { λ r. ⌜ r ≡ listRefusal (now (image .entry)) (now (table .entry)) (now (area .entry)) (now (list .entry)) ⌝ }
+fn list_refusal(
+    image: &[u8],
+    table: &[u32],
+    guards: &[u32],
+    area: &[u32],
+    list: &[u32],
+) -> image::Refusal
+    ensures { λ r. ⌜ r ≡ listRefusal (now (image .entry)) (now (table .entry)) (now (guards .entry)) (now (area .entry)) (now (list .entry)) ⌝ }
 {
-    let refused = area::ended_refusal(image, table, area);
+    let refused = area::ended_refusal(image, table, guards, area);
     if refused.number != 0 {
         return refused;
     }
@@ -269,10 +275,10 @@ fn list_refusal(image: &[u8], table: &[u32], area: &[u32], list: &[u32]) -> imag
 }
 
 // The listed order of a batch whose programs are all settled: each committed program once, and how many there are.
-pub fn order(image: &[u8], table: &[u32], area: &[u32], list: &mut [u32]) -> Listed
-    ensures { λ r. ⌜ OrderSays (now (image .entry)) (now (table .entry)) (now (area .entry)) (now (list .entry)) r (now (list .exit)) ⌝ }
+pub fn order(image: &[u8], table: &[u32], guards: &[u32], area: &[u32], list: &mut [u32]) -> Listed
+    ensures { λ r. ⌜ OrderSays (now (image .entry)) (now (table .entry)) (now (guards .entry)) (now (area .entry)) (now (list .entry)) r (now (list .exit)) ⌝ }
 {
-    let refused = list_refusal(image, table, area, list);
+    let refused = list_refusal(image, table, guards, area, list);
     if refused.number != 0 {
         return Listed::Refused(refused);
     }

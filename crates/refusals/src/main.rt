@@ -1,4 +1,4 @@
-// Earns the rows 5 to 13 and 15 of the refusal table (document 01, and document 02's ask 3), with everything before them in order, and prints what was asked
+// Earns the rows 5 to 15 of the refusal table (document 01, and document 02's asks 3 and 5), with everything before them in order, and prints what was asked
 // and the number that came back; `refused_images` earns the rows about an image. Each line of the output is one call. The batch is the bench sheet's case 2, on
 // the cells x, y and z.
 ghost use mathlib.Core.Path.{_≡_};
@@ -9,6 +9,18 @@ ghost use Rattle.area.specs.Layout.{areaWords, slotStart};
 const CELLS: usize = 3;
 
 const PROGRAMS: usize = 3;
+
+// The words of guards for so many cells, and guards that let every value in.
+const GUARDS: usize = 2 * CELLS;
+
+const FREE: [u32; GUARDS] = [
+    sheetbendle::LOWEST,
+    sheetbendle::HIGHEST,
+    sheetbendle::LOWEST,
+    sheetbendle::HIGHEST,
+    sheetbendle::LOWEST,
+    sheetbendle::HIGHEST,
+];
 
 // The bytes of case 2's image.
 const IMAGE: usize = 80;
@@ -94,29 +106,29 @@ fn show(what: &[u8], number: u32) {
 }
 
 // Shows what opening says with case 2's image.
-fn show_open(what: &[u8], table: &[u32], area: &mut [u32]) {
+fn show_open(what: &[u8], table: &[u32], guards: &[u32], area: &mut [u32]) {
     let image = example();
-    show(what, sheetbendle::open(&image, table, area).number);
+    show(what, sheetbendle::open(&image, table, guards, area).number);
 }
 
 // Shows what gathering says with case 2's image.
 fn show_gather(what: &[u8], table: &[u32], area: &mut [u32], number: usize) {
     let image = example();
-    let answer = sheetbendle::gather(&image, table, area, number);
+    let answer = sheetbendle::gather(&image, table, &FREE, area, number);
     show(what, sheetbendle::of_gathered(answer).refusal.number);
 }
 
 // Shows what settling says with case 2's image.
 fn show_settle(what: &[u8], table: &mut [u32], area: &mut [u32], number: usize) {
     let image = example();
-    let answer = sheetbendle::settle(&image, table, area, number);
+    let answer = sheetbendle::settle(&image, table, &FREE, area, number);
     show(what, sheetbendle::of_settled(answer).refusal.number);
 }
 
 // Shows what why says with case 2's image.
 fn show_why(what: &[u8], table: &[u32], area: &[u32], number: usize) {
     let image = example();
-    let answer = sheetbendle::why(&image, table, area, number);
+    let answer = sheetbendle::why(&image, table, &FREE, area, number);
     show(what, sheetbendle::of_why(answer).refusal.number);
 }
 
@@ -126,7 +138,7 @@ fn show_order(what: &[u8], table: &[u32], area: &[u32], entries: usize)
 {
     let image = example();
     let mut list = [0; PROGRAMS];
-    match sheetbendle::order(&image, table, area, &mut list[0..entries]) {
+    match sheetbendle::order(&image, table, &FREE, area, &mut list[0..entries]) {
         sheetbendle::Listed::Refused(refusal) => show(what, refusal.number),
         sheetbendle::Listed::Count(_) => show(what, 0),
     }
@@ -138,7 +150,7 @@ fn show_next(what: &[u8], table: &[u32], area: &[u32], fresh: &[u8], room: usize
 {
     let image = example();
     let mut out = [0; ROOM];
-    match sheetbendle::next_image(&image, table, area, fresh, &mut out[0..room]) {
+    match sheetbendle::next_image(&image, table, &FREE, area, fresh, &mut out[0..room]) {
         sheetbendle::Next::Refused(refusal) => show(what, refusal.number),
         sheetbendle::Next::Length(_) => show(what, 0),
     }
@@ -147,8 +159,19 @@ fn show_next(what: &[u8], table: &[u32], area: &[u32], fresh: &[u8], room: usize
 // Row 5, at opening.
 fn of_table_size() {
     let long = long_table();
-    show_open(b"open with no table", &[], &mut []);
-    show_open(b"open with 257 cells", &long, &mut []);
+    show_open(b"open with no table", &[], &[], &mut []);
+    show_open(b"open with 257 cells", &long, &[], &mut []);
+}
+
+// Row 14, at opening, in an area that breaks row 6 too.
+fn of_guards(table: &[u32]) {
+    show_open(b"open with no guards", table, &[], &mut []);
+    show_open(
+        b"open with an end of a guard too few",
+        table,
+        &FREE[0..GUARDS - 1],
+        &mut [],
+    );
 }
 
 // Row 6, at opening.
@@ -156,8 +179,13 @@ fn of_area_size(table: &[u32], area: &mut [u32])
     requires { ⌜ areaWords 3 3 ≡ length (now area) ⌝ }
 {
     let short = area.len() - 1;
-    show_open(b"open with an area too short", table, &mut area[0..short]);
-    show_open(b"open", table, area);
+    show_open(
+        b"open with an area too short",
+        table,
+        &FREE,
+        &mut area[0..short],
+    );
+    show_open(b"open", table, &FREE, area);
 }
 
 // Shows what gathering program 0 says of an area with one word changed; program 1 counts one read in it.
@@ -268,6 +296,7 @@ fn of_knots(table: &[u32], area: &mut [u32])
 fn of_steps(table: &mut [u32], area: &mut [u32])
     requires { ⌜ areaWords 3 3 ≡ length (now area) ⌝ }
 {
+    of_guards(table);
     of_area_size(table, area);
     of_area_words(table);
     of_gathering(table, area);

@@ -82,7 +82,7 @@ fn show_open(what: &[u8], image: &[u8]) {
     let words = sheetbendle::area_words(1, PROGRAMS as u16);
     io::write_all(1, what);
     io::write_all(1, b", opened");
-    show(sheetbendle::open(image, &[0], &mut room[0..words]));
+    show(sheetbendle::open(image, &[0], &[0, 0], &mut room[0..words]));
 }
 
 // Shows what the next image says of a fresh one, after a batch without programs on one cell.
@@ -91,7 +91,7 @@ fn show_fresh(what: &[u8], fresh: &[u8]) {
     let mut out = [0; IMAGE];
     io::write_all(1, what);
     io::write_all(1, b", fresh");
-    match sheetbendle::next_image(&image, &[0], &[0, 0], fresh, &mut out) {
+    match sheetbendle::next_image(&image, &[0], &[0, 0], &[0, 0], fresh, &mut out) {
         sheetbendle::Next::Refused(refusal) => show(refusal),
         sheetbendle::Next::Length(_) => show(sheetbendle::Refusal::NONE),
     }

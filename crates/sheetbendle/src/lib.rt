@@ -1,5 +1,5 @@
 // Sheetbendle runs one batch of small programs against a table of 32-bit cells, by the two phases of the Aria paper. A board lends the image (the
-// programs), the table, and a work area of `area_words(T, n)` words for T cells and n programs, and makes these calls in this order:
+// programs), the table, its guards, and a work area of `area_words(T, n)` words for T cells and n programs, and makes these calls in this order:
 //
 //   open         clears the work area for this image and this table.
 //   gather       runs one program on the table and writes down what it reads and stores; once for each program, in any order.
@@ -7,6 +7,8 @@
 //   order        lists the committed programs in an order in which running them one after another gives the same table.
 //   next_image   makes the next batch's image: the carried programs, then those of a fresh image.
 //
+// The guards are two words for each cell, its low end and then its high one, read as signed numbers: a program that stores a value below low or above high
+// faults. `full_range` makes a list that lets every value in. Each of the calls above is lent the same guards.
 // Once all are settled, `why` says why a program was carried, and `comes_before` before whom a program comes that read a cell as it was.
 // A sheet is an image as a text that can be typed: `image_of` reads a sheet and writes its image, `sheet_of` reads an image and writes its sheet.
 // Beside these, `program` hands back one program as a part of the image, and `program_refusal` says why it does not.
@@ -23,6 +25,7 @@ pub use causes::why;
 pub use from_image::LONGEST_SHEET;
 pub use from_image::sheet_of;
 pub use from_sheet::image_of;
+pub use guard::full_range;
 pub use image::Image;
 pub use image::Refusal;
 pub use image::program;
@@ -62,9 +65,17 @@ pub const COMMITTED: u32 = slot::COMMITTED;
 
 pub const CARRIED: u32 = slot::CARRIED;
 
-// A faulted program's detail is KIND_UNIT × kind + instruction number; the kinds are a load and a store.
+// The two ends of the full range, as a guard list has them.
+pub const LOWEST: u32 = guard::LOWEST;
+
+pub const HIGHEST: u32 = guard::HIGHEST;
+
+// A faulted program's detail is KIND_UNIT × kind + instruction number; the kinds are a load and a store of a cell outside the table, and a store that a
+// guard does not admit.
 pub const KIND_UNIT: u32 = machine::KIND_UNIT;
 
 pub const LOAD_FAULT: u8 = machine::LOAD_FAULT;
 
 pub const STORE_FAULT: u8 = machine::STORE_FAULT;
+
+pub const GUARD_FAULT: u8 = machine::GUARD_FAULT;

@@ -9,6 +9,7 @@ use Rattle.image.specs.declared.Refusal.{Refusal}
 use Rattle.image.specs.Refusals.{none}
 use Rattle.image.proofs.Refusing.{unless-done}
 use Rattle.image.specs.Image.{countOf, partOf}
+use Rattle.guard.specs.Guards.{admits}
 use Rattle.slot.specs.Layout.{stateWord, detailWord, slotWords}
 use Rattle.machine.specs.Runs.{stateOfRun, detailOfRun}
 use Rattle.machine.proofs.Laws.{part-runnable, slot-of-state, slot-of-detail}
@@ -32,23 +33,23 @@ same-numbers x state detail e f g = rw (f, g) (ap (λ (r : Refusal). record { re
 
 -- ---- gathering
 
-module _ (image t a : List ℕ) (k : ℕ) where
+module _ (image t g a : List ℕ) (k : ℕ) where
   left-words : Checked image t a → k < countOf image
-      → doneWith (stateOfRun (runAt image t k .answer)) (detailOfRun (runAt image t k .answer)) ≡ wordsOf (length t) k (gatheredArea image t k a)
+      → doneWith (stateOfRun (runAt image t g k .answer)) (detailOfRun (runAt image t g k .answer)) ≡ wordsOf (length t) k (gatheredArea image t g k a)
   left-words c h =
       let p : List ℕ = partOf image k in
       let short = part-runnable image (c .accepted) k h .short in
-      let own = gathered-own (length t) (runAt image t k) (fits image t a k c h) (countOf image) k a (c .sized) h in
-      same-numbers (doneWith (stateOfRun (runAt image t k .answer)) (detailOfRun (runAt image t k .answer))) _ _ refl
-      (state-in-slot (length t) k (gatheredArea image t k a) ∙ (ap (λ (s : List ℕ). getD s stateWord 0) own ∙ slot-of-state p t short))
-      (detail-in-slot (length t) k (gatheredArea image t k a) ∙ (ap (λ (s : List ℕ). getD s detailWord 0) own ∙ slot-of-detail p t short))
+      let own = gathered-own (length t) (runAt image t g k) (fits image t g a k c h) (countOf image) k a (c .sized) h in
+      same-numbers (doneWith (stateOfRun (runAt image t g k .answer)) (detailOfRun (runAt image t g k .answer))) _ _ refl
+      (state-in-slot (length t) k (gatheredArea image t g k a) ∙ (ap (λ (s : List ℕ). getD s stateWord 0) own ∙ slot-of-state (admits g) p t short))
+      (detail-in-slot (length t) k (gatheredArea image t g k a) ∙ (ap (λ (s : List ℕ). getD s detailWord 0) own ∙ slot-of-detail (admits g) p t short))
 
-  pub gather-numbers : gatherRefusal image t a k .number ≡ 0 → numbersOfGathered (gatherAnswer image t a k) ≡ wordsOf (length t) k (gatherArea image t a k)
+  pub gather-numbers : gatherRefusal image t g a k .number ≡ 0 → numbersOfGathered (gatherAnswer image t g a k) ≡ wordsOf (length t) k (gatherArea image t g a k)
   unfolding gatherAnswer gatherArea
   gather-numbers e =
-      let w = gather-shows image t a k e in
-      ap numbersOfGathered (unless-done (gatherRefusal image t a k) gathering.Refused (gathering.Ran (runAt image t k .answer)) e)
-      ∙ (left-words (w .0) (w .1) ∙ ap (wordsOf (length t) k) (sym (unless-done (gatherRefusal image t a k) (λ r. a) (gatheredArea image t k a) e)))
+      let w = gather-shows image t g a k e in
+      ap numbersOfGathered (unless-done (gatherRefusal image t g a k) gathering.Refused (gathering.Ran (runAt image t g k .answer)) e)
+      ∙ (left-words (w .0) (w .1) ∙ ap (wordsOf (length t) k) (sym (unless-done (gatherRefusal image t g a k) (λ r. a) (gatheredArea image t g k a) e)))
 
 -- ---- settling
 
@@ -66,7 +67,7 @@ decided-done true false false war = refl
 decided-done false false true war = refl
 decided-done false false false war = refl
 
-module _ (image t a : List ℕ) (k : ℕ) where
+module _ (image t g a : List ℕ) (k : ℕ) where
   settled-words : Checked image t a → k < countOf image → (v : Settled) → numbersOfSettled v .refusal ≡ none
       → numbersOfSettled v ≡ wordsOf (length t) k (settledArea v (length t) k a)
   unfolding settledArea
@@ -76,11 +77,11 @@ module _ (image t a : List ℕ) (k : ℕ) where
       (state-back (length t) k (numbersOfSettled v .state) (numbersOfSettled v .detail) a lies)
       (detail-back (length t) k (numbersOfSettled v .state) (numbersOfSettled v .detail) a lies)
 
-  pub settle-numbers : settleRefusal image t a k .number ≡ 0 → numbersOfSettled (settleAnswer image t a k) ≡ wordsOf (length t) k (settleArea image t a k)
+  pub settle-numbers : settleRefusal image t g a k .number ≡ 0 → numbersOfSettled (settleAnswer image t g a k) ≡ wordsOf (length t) k (settleArea image t g a k)
   unfolding settleAnswer settleArea verdict
   settle-numbers e =
-      let w = settle-shows image t a k e in
+      let w = settle-shows image t g a k e in
       let v : Settled = verdict image (length t) k a in
-      ap numbersOfSettled (unless-done (settleRefusal image t a k) settling.Refused v e)
+      ap numbersOfSettled (unless-done (settleRefusal image t g a k) settling.Refused v e)
       ∙ (settled-words (w .0) (w .1) v (decided-done _ _ _ _)
-      ∙ ap (wordsOf (length t) k) (sym (unless-done (settleRefusal image t a k) (λ r. a) (settledArea v (length t) k a) e)))
+      ∙ ap (wordsOf (length t) k) (sym (unless-done (settleRefusal image t g a k) (λ r. a) (settledArea v (length t) k a) e)))

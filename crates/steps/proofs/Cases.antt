@@ -7,6 +7,7 @@ use lib.ListN.{replicate}
 use Rattle.image.specs.Refusals.{refusing}
 use Rattle.image.specs.Assembler.{Instruction, set, load, store, reject, program, image}
 use Rattle.image.specs.Bench.{x, y, copy, example-1, example-2}
+use Rattle.guard.specs.Guards.{fullRange, fullFor}
 use Rattle.machine.specs.declared.Run.the-variants.{Finished, Rejected, Faulted}
 use Rattle.area.specs.Sketch.{slot, area}
 use Rattle.steps.specs.declared.Gathered.the-variants.{Ran}
@@ -18,27 +19,34 @@ use Rattle.steps.specs.Opened.{opened}
 abbrev zeros : ℕ → List ℕ
 zeros n = replicate n 0
 
+-- what the calls leave where no guard is in the way
+abbrev openIn : List ℕ → List ℕ → List ℕ → List ℕ
+openIn i t a = openArea i t (fullFor t) a
+
+abbrev gather : List ℕ → List ℕ → List ℕ → ℕ → List ℕ
+gather i t a k = gatherArea i t (fullFor t) a k
+
 -- the area after these programs are gathered, one after another
 abbrev gatherEach : List ℕ → List ℕ → List ℕ → List ℕ → List ℕ
 gatherEach i t a [] = a
-gatherEach i t a (k ∷ ks) = gatherEach i t (gatherArea i t a k) ks
+gatherEach i t a (k ∷ ks) = gatherEach i t (gather i t a k) ks
 
 -- ---- "Opening sets the whole area to 0."
 
 -- for one cell and no program, and for three cells and three programs, whatever stood there
-whole-area : openArea (image 0 []) (5 ∷ []) (7 ∷ 7 ∷ []) ∷ openArea (example-2 1) (1 ∷ 2 ∷ 3 ∷ []) (replicate 306 7) ∷ [] ≡ zeros 2 ∷ zeros 306 ∷ []
+whole-area : openIn (image 0 []) (5 ∷ []) (7 ∷ 7 ∷ []) ∷ openIn (example-2 1) (1 ∷ 2 ∷ 3 ∷ []) (replicate 306 7) ∷ [] ≡ zeros 2 ∷ zeros 306 ∷ []
 unfolding opened
 whole-area = refl
 
 -- what the call's contract says of it
-opening-says : OpenSays (example-2 1) (1 ∷ 2 ∷ 3 ∷ []) (replicate 306 7) (refusing 0) (zeros 306)
+opening-says : OpenSays (example-2 1) (1 ∷ 2 ∷ 3 ∷ []) (fullRange 6) (replicate 306 7) (refusing 0) (zeros 306)
 unfolding opened
 opening-says = record { answer = refl; area = refl }
 
 -- ---- "Gathering runs one waiting program on the table lent to it (its opening table)"
 
 -- y = x on x = 1, and on x = 7
-on-the-table-lent : map (λ v. gatherArea (image 1 (copy x y ∷ [])) (v ∷ 5 ∷ []) (zeros 104) 0) (1 ∷ 7 ∷ [])
+on-the-table-lent : map (λ v. gather (image 1 (copy x y ∷ [])) (v ∷ 5 ∷ []) (zeros 104) 0) (1 ∷ 7 ∷ [])
     ≡ area (0 ∷ 1 ∷ []) (1 ∷ 0 ∷ []) (slot 1 0 (0 ∷ []) (1 ∷ []) (1 ∷ []) ∷ [])
     ∷ area (0 ∷ 1 ∷ []) (1 ∷ 0 ∷ []) (slot 1 0 (0 ∷ []) (1 ∷ []) (7 ∷ []) ∷ [])
     ∷ []
@@ -61,7 +69,7 @@ no-earlier-store = refl
 whole-slot :
     let beside : List ℕ = slot 5 3 (0 ∷ []) (0 ∷ []) (9 ∷ []) in
     let before : List ℕ = slot 0 77 (replicate 32 1) (replicate 32 1) (replicate 32 88) in
-    gatherArea (image 1 (replicate 3 (copy x y))) (5 ∷ 6 ∷ []) (area (0 ∷ 0 ∷ []) (0 ∷ 0 ∷ []) (beside ∷ before ∷ beside ∷ [])) 1
+    gather (image 1 (replicate 3 (copy x y))) (5 ∷ 6 ∷ []) (area (0 ∷ 0 ∷ []) (0 ∷ 0 ∷ []) (beside ∷ before ∷ beside ∷ [])) 1
     ≡ area (0 ∷ 2 ∷ []) (2 ∷ 0 ∷ []) (beside ∷ slot 1 0 (0 ∷ []) (1 ∷ []) (5 ∷ []) ∷ beside ∷ [])
 unfolding opened
 whole-slot = refl
@@ -111,7 +119,7 @@ only-state-and-detail = refl
 
 -- ---- "When done, gathering and settling return the slot's state and detail"
 
-answers : map (gatherAnswer failing (5 ∷ 6 ∷ []) (zeros 404)) (0 ∷ 1 ∷ 2 ∷ 3 ∷ []) ≡ Ran (Rejected 7) ∷ Ran (Faulted 2 4) ∷ Ran (Faulted 1 4) ∷ Ran Finished ∷ []
+answers : map (gatherAnswer failing (5 ∷ 6 ∷ []) (fullRange 4) (zeros 404)) (0 ∷ 1 ∷ 2 ∷ 3 ∷ []) ≡ Ran (Rejected 7) ∷ Ran (Faulted 2 4) ∷ Ran (Faulted 1 4) ∷ Ran Finished ∷ []
 unfolding opened
 answers = refl
 
@@ -123,7 +131,7 @@ done-is-0 : doneWith 3 516 ≡ record { refusal = refusing 0; state = 3; detail 
 done-is-0 = refl
 
 -- what the call's contract says of all this
-gathering-says : GatherSays (image 1 (copy x y ∷ [])) (7 ∷ 5 ∷ []) (zeros 104) 0 (Ran Finished)
+gathering-says : GatherSays (image 1 (copy x y ∷ [])) (7 ∷ 5 ∷ []) (fullRange 4) (zeros 104) 0 (Ran Finished)
     (area (0 ∷ 1 ∷ []) (1 ∷ 0 ∷ []) (slot 1 0 (0 ∷ []) (1 ∷ []) (7 ∷ []) ∷ []))
 unfolding opened
 gathering-says = record { answer = refl; area = refl }

@@ -8,6 +8,7 @@ use lib.ListN.{length}
 use Rattle.image.specs.Refusals.{unless}
 use Rattle.image.specs.Image.{countOf, partOf}
 use Rattle.image.proofs.Refusing.{unless-refused, unless-done, unless-either}
+use Rattle.guard.specs.Guards.{admits}
 use Rattle.slot.specs.States.{lastState}
 use Rattle.slot.specs.Log.{Fits}
 use Rattle.machine.specs.Runs.{keptBy}
@@ -27,27 +28,28 @@ use Rattle.steps.proofs.Views.{gathered-passed, settled-length, table-l
 
 -- ---- the steps where the checks have been made
 
-module _ (image t a : List ℕ) (k : ℕ) (c : Checked image t a) (h : k < countOf image) where
+module _ (image t g a : List ℕ) (k : ℕ) (c : Checked image t a) (h : k < countOf image) where
   -- what the run of the program keeps fits its slot
-  pub fits : Fits (length t) (keptBy (runAt image t k))
-  fits = run-kept (partOf image k) t (part-runnable image (c .accepted) k h .short)
+  pub fits : Fits (length t) (keptBy (runAt image t g k))
+  fits = run-kept (admits g) (partOf image k) t (part-runnable image (c .accepted) k h .short)
 
   -- gathering, after each of its three parts
-  pub placed-checked : Checked image t (placed (length t) k (runAt image t k) a)
+  pub placed-checked : Checked image t (placed (length t) k (runAt image t g k) a)
   placed-checked =
-      checked-area image t a (placed (length t) k (runAt image t k) a) c (placed-length (length t) (runAt image t k) fits (countOf image) k a (c .sized) h)
-      (placed-passed (length t) (runAt image t k) fits (countOf image) k a (c .sized) h (checked-passed image t a c))
+      checked-area image t a (placed (length t) k (runAt image t g k) a) c (placed-length (length t) (runAt image t g k) fits (countOf image) k a (c .sized) h)
+      (placed-passed (length t) (runAt image t g k) fits (countOf image) k a (c .sized) h (checked-passed image t a c))
 
-  pub marked-checked : Checked image t (marked (length t) k (runAt image t k) a)
+  pub marked-checked : Checked image t (marked (length t) k (runAt image t g k) a)
   marked-checked =
-      checked-area image t a (marked (length t) k (runAt image t k) a) c (marked-length (length t) (runAt image t k) fits (countOf image) k a (c .sized) h)
-      (marked-passed (length t) (runAt image t k) fits (countOf image) k a (c .sized) h (checked-passed image t a c))
+      checked-area image t a (marked (length t) k (runAt image t g k) a) c (marked-length (length t) (runAt image t g k) fits (countOf image) k a (c .sized) h)
+      (marked-passed (length t) (runAt image t g k) fits (countOf image) k a (c .sized) h (checked-passed image t a c))
 
-  pub gathered-checked : Checked image t (gatheredArea image t k a)
+  pub gathered-checked : Checked image t (gatheredArea image t g k a)
   gathered-checked =
-      checked-area image t a (gatheredArea image t k a) c (gathered-length (length t) (runAt image t k) fits (countOf image) k a (c .sized) h)
-      (gathered-passed (length t) (runAt image t k) fits (countOf image) k a (c .sized) h (checked-passed image t a c))
+      checked-area image t a (gatheredArea image t g k a) c (gathered-length (length t) (runAt image t g k) fits (countOf image) k a (c .sized) h)
+      (gathered-passed (length t) (runAt image t g k) fits (countOf image) k a (c .sized) h (checked-passed image t a c))
 
+module _ (image t a : List ℕ) (k : ℕ) (c : Checked image t a) (h : k < countOf image) where
   settled-few : (v : Settled) → numbersOfSettled v .state ≤ lastState
   settled-few (Refused r) = omega arith
   settled-few Committed = omega arith
@@ -67,33 +69,33 @@ module _ (image t a : List ℕ) (k : ℕ) (c : Checked image t a) (h : k < count
 
 -- ---- the calls
 
-pub open-checked : (image t a : List ℕ) → openRefusal image t a .number ≡ 0 → Checked image t (openArea image t a)
+pub open-checked : (image t g a : List ℕ) → openRefusal image t g a .number ≡ 0 → Checked image t (openArea image t g a)
 unfolding openArea
-open-checked image t a e = rw (unless-done (openRefusal image t a) (λ r. a) (cleared a) e) (checked-open image t a e)
+open-checked image t g a e = rw (unless-done (openRefusal image t g a) (λ r. a) (cleared a) e) (checked-open image t g a e)
 
-module _ (image t a : List ℕ) (k : ℕ) where
-  pub gather-checked : Checked image t a → Checked image t (gatherArea image t a k)
+module _ (image t g a : List ℕ) (k : ℕ) where
+  pub gather-checked : Checked image t a → Checked image t (gatherArea image t g a k)
   unfolding gatherArea
   gather-checked c =
-      unless-either (λ b. Checked image t b) (gatherRefusal image t a k) (λ r. a) (gatheredArea image t k a) c
-      (λ e. gathered-checked image t a k c (gather-shows image t a k e .1))
+      unless-either (λ b. Checked image t b) (gatherRefusal image t g a k) (λ r. a) (gatheredArea image t g k a) c
+      (λ e. gathered-checked image t g a k c (gather-shows image t g a k e .1))
 
-  pub settle-checked : Checked image t a → Checked image (settleTable image t a k) (settleArea image t a k)
+  pub settle-checked : Checked image t a → Checked image (settleTable image t g a k) (settleArea image t g a k)
   unfolding settleTable settleArea
-  settle-checked c = go (ℕ-discrete (settleRefusal image t a k .number) 0)
+  settle-checked c = go (ℕ-discrete (settleRefusal image t g a k .number) 0)
     where
-      go : Dec (settleRefusal image t a k .number ≡ 0)
-          → Checked image (unless (settleRefusal image t a k) (λ r. t) (settledTable (verdict image (length t) k a) k a t))
-          (unless (settleRefusal image t a k) (λ r. a) (settledArea (verdict image (length t) k a) (length t) k a))
+      go : Dec (settleRefusal image t g a k .number ≡ 0)
+          → Checked image (unless (settleRefusal image t g a k) (λ r. t) (settledTable (verdict image (length t) k a) k a t))
+          (unless (settleRefusal image t g a k) (λ r. a) (settledArea (verdict image (length t) k a) (length t) k a))
       go (yes e) =
           rw (
-            unless-done (settleRefusal image t a k) (λ r. t) (settledTable (verdict image (length t) k a) k a t) e,
-            unless-done (settleRefusal image t a k) (λ r. a) (settledArea (verdict image (length t) k a) (length t) k a) e,
+            unless-done (settleRefusal image t g a k) (λ r. t) (settledTable (verdict image (length t) k a) k a t) e,
+            unless-done (settleRefusal image t g a k) (λ r. a) (settledArea (verdict image (length t) k a) (length t) k a) e,
           )
-          (settled-checked image t a k c (settle-shows image t a k e .1) (verdict image (length t) k a))
+          (settled-checked image t a k c (settle-shows image t g a k e .1) (verdict image (length t) k a))
       go (no h) =
           rw (
-            unless-refused (settleRefusal image t a k) (λ r. t) (settledTable (verdict image (length t) k a) k a t) h,
-            unless-refused (settleRefusal image t a k) (λ r. a) (settledArea (verdict image (length t) k a) (length t) k a) h,
+            unless-refused (settleRefusal image t g a k) (λ r. t) (settledTable (verdict image (length t) k a) k a t) h,
+            unless-refused (settleRefusal image t g a k) (λ r. a) (settledArea (verdict image (length t) k a) (length t) k a) h,
           )
           c

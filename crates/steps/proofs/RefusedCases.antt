@@ -7,6 +7,7 @@ use lib.ListN.{take, replicate}
 use Rattle.image.specs.declared.Refusal.{Refusal}
 use Rattle.image.specs.Refusals.{refusingAt, refusing}
 use Rattle.image.specs.Assembler.{instruction, end, program, image}
+use Rattle.guard.specs.Guards.{fullFor}
 use Rattle.area.specs.Checks.{openRefusal}
 use Rattle.area.specs.Sketch.{slot, area}
 use Rattle.steps.specs.declared.Gathered.the-variants as gathering
@@ -31,28 +32,31 @@ abbrev three : ℕ → ℕ → ℕ → Numbers
 three refusal state detail = record { refusal = refusing refusal; state = state; detail = detail }
 
 abbrev gathers : List ℕ → List ℕ → List ℕ → ℕ → Numbers
-gathers i t a k = numbersOfGathered (gatherAnswer i t a k)
+gathers i t a k = numbersOfGathered (gatherAnswer i t (fullFor t) a k)
 
 abbrev settles : List ℕ → List ℕ → List ℕ → ℕ → Numbers
-settles i t a k = numbersOfSettled (settleAnswer i t a k)
+settles i t a k = numbersOfSettled (settleAnswer i t (fullFor t) a k)
 
 -- ---- the row order
 
 -- Inputs that break two neighbours each. 1, 2: rule 3 in 5 bytes. 2, 3: rule 3 and a byte too many. 3, 41: a byte too many after operation 9.
--- 41, 5: operation 9 and no cells. 5, 6: no cells and a word too many. 6, 7: a word too many and marks over n. 7, 8: marks over n and number n.
--- 8, 9: number n where some state is 0. 9: state 1 beside state 0.
-abbrev broken : {A : Type 0} → ((i t a : List ℕ) → (k : ℕ) → A) → List A
+-- 41, 5: operation 9 and no cells. 5, 14: no cells and a guard. 14, 6: an end without the other and a word too many. 6, 7: a word too many and marks over n.
+-- 7, 8: marks over n and number n. 8, 9: number n where some state is 0. 9: state 1 beside state 0.
+abbrev broken : {A : Type 0} → ((i t g a : List ℕ) → (k : ℕ) → A) → List A
 broken f =
     let bad : List ℕ = image 0 ([] ∷ program (end ∷ end ∷ instruction 9 0 0 0 ∷ []) ∷ []) in
-    f (take 5 (image 3 [])) (5 ∷ []) (7 ∷ 7 ∷ []) 0
-    ∷ f (image 3 [] ++ (0 ∷ [])) (5 ∷ []) (7 ∷ 7 ∷ []) 0
-    ∷ f (bad ++ (0 ∷ [])) (5 ∷ []) (7 ∷ 7 ∷ []) 0
-    ∷ f bad [] (replicate 100 7) 0
-    ∷ f two [] (replicate 201 7) 0
-    ∷ f two (5 ∷ []) (replicate 203 7) 0
-    ∷ f two (5 ∷ []) (states 3 0 0) 2
-    ∷ f two (5 ∷ []) (states 1 0 0) 2
-    ∷ f two (5 ∷ []) (states 2 1 0) 0
+    let five : List ℕ = 5 ∷ [] in
+    let pair : List ℕ = 1 ∷ 0 ∷ [] in
+    f (take 5 (image 3 [])) five pair (7 ∷ 7 ∷ []) 0
+    ∷ f (image 3 [] ++ (0 ∷ [])) five pair (7 ∷ 7 ∷ []) 0
+    ∷ f (bad ++ (0 ∷ [])) five pair (7 ∷ 7 ∷ []) 0
+    ∷ f bad [] [] (replicate 100 7) 0
+    ∷ f two [] pair (replicate 201 7) 0
+    ∷ f two five five (replicate 203 7) 0
+    ∷ f two five pair (replicate 203 7) 0
+    ∷ f two five pair (states 3 0 0) 2
+    ∷ f two five pair (states 1 0 0) 2
+    ∷ f two five pair (states 2 1 0) 0
     ∷ []
 
 -- 1 to 3, then 41 with its place, instruction 2 of program 1, then these
@@ -60,36 +64,36 @@ abbrev refusals : List ℕ → List Refusal
 refusals rest = map refusing (1 ∷ 2 ∷ 3 ∷ []) ++ (refusingAt 41 1 2 ∷ map refusing rest)
 
 -- the last three are nothing to opening, which knows neither marks, nor numbers, nor states
-opening : broken (λ i t a k. openRefusal i t a) ≡ refusals (5 ∷ 6 ∷ 0 ∷ 0 ∷ 0 ∷ [])
+opening : broken (λ i t g a k. openRefusal i t g a) ≡ refusals (5 ∷ 14 ∷ 6 ∷ 0 ∷ 0 ∷ 0 ∷ [])
 unfolding opened
 opening = refl
 
-gathering-answers : broken gatherAnswer ≡ map gathering.Refused (refusals (5 ∷ 6 ∷ 7 ∷ 8 ∷ 9 ∷ []))
+gathering-answers : broken gatherAnswer ≡ map gathering.Refused (refusals (5 ∷ 14 ∷ 6 ∷ 7 ∷ 8 ∷ 9 ∷ []))
 unfolding opened
 gathering-answers = refl
 
-settling-answers : broken settleAnswer ≡ map settling.Refused (refusals (5 ∷ 6 ∷ 7 ∷ 8 ∷ 9 ∷ []))
+settling-answers : broken settleAnswer ≡ map settling.Refused (refusals (5 ∷ 14 ∷ 6 ∷ 7 ∷ 8 ∷ 9 ∷ []))
 unfolding opened
 settling-answers = refl
 
 -- ---- "A refusal returns its number, 0 for every other result, and changes no lent memory."
 
-numbers-of-refusals : (broken gathers ≡ map refusedBy (refusals (5 ∷ 6 ∷ 7 ∷ 8 ∷ 9 ∷ [])))
-    × (broken settles ≡ map refusedBy (refusals (5 ∷ 6 ∷ 7 ∷ 8 ∷ 9 ∷ [])))
+numbers-of-refusals : (broken (λ i t g a k. numbersOfGathered (gatherAnswer i t g a k)) ≡ map refusedBy (refusals (5 ∷ 14 ∷ 6 ∷ 7 ∷ 8 ∷ 9 ∷ [])))
+    × (broken (λ i t g a k. numbersOfSettled (settleAnswer i t g a k)) ≡ map refusedBy (refusals (5 ∷ 14 ∷ 6 ∷ 7 ∷ 8 ∷ 9 ∷ [])))
 unfolding opened
 numbers-of-refusals = (refl, refl)
 
-nothing-changed : (take 6 (broken (λ i t a k. openArea i t a)) ≡ take 6 (broken (λ i t a k. a)))
-    × (broken gatherArea ≡ broken (λ i t a k. a))
-    × (broken settleTable ≡ broken (λ i t a k. t))
-    × (broken settleArea ≡ broken (λ i t a k. a))
+nothing-changed : (take 7 (broken (λ i t g a k. openArea i t g a)) ≡ take 7 (broken (λ i t g a k. a)))
+    × (broken gatherArea ≡ broken (λ i t g a k. a))
+    × (broken settleTable ≡ broken (λ i t g a k. t))
+    × (broken settleArea ≡ broken (λ i t g a k. a))
 unfolding opened
 nothing-changed = (refl, refl, refl, refl)
 
 -- what the calls' contracts say of a refusal
-refused-says : OpenSays two [] (7 ∷ 7 ∷ []) (refusing 5) (7 ∷ 7 ∷ [])
-    × GatherSays two [] (7 ∷ 7 ∷ []) 0 (gathering.Refused (refusing 5)) (7 ∷ 7 ∷ [])
-    × SettleSays two (5 ∷ []) (7 ∷ 7 ∷ []) 0 (settling.Refused (refusing 6)) (5 ∷ []) (7 ∷ 7 ∷ [])
+refused-says : OpenSays two [] [] (7 ∷ 7 ∷ []) (refusing 5) (7 ∷ 7 ∷ [])
+    × GatherSays two (5 ∷ []) [] (7 ∷ 7 ∷ []) 0 (gathering.Refused (refusing 14)) (7 ∷ 7 ∷ [])
+    × SettleSays two (5 ∷ []) (0 ∷ 0 ∷ []) (7 ∷ 7 ∷ []) 0 (settling.Refused (refusing 6)) (5 ∷ []) (7 ∷ 7 ∷ [])
 unfolding opened
 refused-says = (record { answer = refl; area = refl }, record { answer = refl; area = refl }, record { answer = refl; table = refl; area = refl })
 

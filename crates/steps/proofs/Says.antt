@@ -36,67 +36,67 @@ use Rattle.steps.proofs.Keeps.{fits, placed-checked, marked-checked}
 
 -- ---- opening
 
-module _ (image t a : List ℕ) (r : Refusal) (e : r ≡ openRefusal image t a) where
-  pub open-refused : (r .number ≡ 0 → ⊥) → OpenSays image t a r a
+module _ (image t g a : List ℕ) (r : Refusal) (e : r ≡ openRefusal image t g a) where
+  pub open-refused : (r .number ≡ 0 → ⊥) → OpenSays image t g a r a
   unfolding openArea
   open-refused h = record { answer = e; area = refused-as (λ r. a) _ e h }
 
-  pub open-done : r .number ≡ 0 → (a′ : List ℕ) → a′ ≡ cleared a → OpenSays image t a refusal.none a′
+  pub open-done : r .number ≡ 0 → (a′ : List ℕ) → a′ ≡ cleared a → OpenSays image t g a refusal.none a′
   unfolding openArea
-  open-done h a′ q = record { answer = sym (none-is (rw e (open-well image t a)) h) ∙ e; area = done-as (λ r. a) e h q }
+  open-done h a′ q = record { answer = sym (none-is (rw e (open-well image t g a)) h) ∙ e; area = done-as (λ r. a) e h q }
 
 -- ---- gathering
 
-module _ (image t a : List ℕ) (k : ℕ) (r : Refusal) (e : r ≡ gatherRefusal image t a k) where
-  pub gather-refused : (r .number ≡ 0 → ⊥) → GatherSays image t a k (gathering.Refused r) a
+module _ (image t g a : List ℕ) (k : ℕ) (r : Refusal) (e : r ≡ gatherRefusal image t g a k) where
+  pub gather-refused : (r .number ≡ 0 → ⊥) → GatherSays image t g a k (gathering.Refused r) a
   unfolding gatherAnswer gatherArea
   gather-refused h = record { answer = refused-as gathering.Refused _ e h; area = refused-as (λ r. a) _ e h }
 
-  pub gather-done : r .number ≡ 0 → (x : Run) (a′ : List ℕ) → Gathers image t a k x a′ → GatherSays image t a k (gathering.Ran x) a′
+  pub gather-done : r .number ≡ 0 → (x : Run) (a′ : List ℕ) → Gathers image t g a k x a′ → GatherSays image t g a k (gathering.Ran x) a′
   unfolding gatherAnswer gatherArea
   gather-done h x a′ w = record { answer = done-as gathering.Refused e h (ap gathering.Ran (w .answer)); area = done-as (λ r. a) e h (w .area) }
 
 -- the parts of gathering, one after another: b is the area with the run's slot, d that with the write marks, z that with the read marks
-module _ (image t a : List ℕ) (k : ℕ) (c : Checked image t a) (h : k < countOf image) (x : Run) (b : List ℕ) (i : RunsInto image t a k x b) where
+module _ (image t g a : List ℕ) (k : ℕ) (c : Checked image t a) (h : k < countOf image) (x : Run) (b : List ℕ) (i : RunsInto image t g a k x b) where
   pub after-run : Slotted (length t) k b
   after-run =
       subst (λ (y : List ℕ). Slotted (length t) k y) (sym (i .area))
-      (program-slotted image t (placed (length t) k (runAt image t k) a) (placed-checked image t a k c h) k h)
+      (program-slotted image t (placed (length t) k (runAt image t g k) a) (placed-checked image t g a k c h) k h)
 
-  writes-are : (d : List ℕ) → d ≡ reserve (marksAt Write (length t)) (storesOf (length t) k b) k b → d ≡ marked (length t) k (runAt image t k) a
-  writes-are d g =
-      g
+  writes-are : (d : List ℕ) → d ≡ reserve (marksAt Write (length t)) (storesOf (length t) k b) k b → d ≡ marked (length t) k (runAt image t g k) a
+  writes-are d f =
+      f
       ∙ (ap (λ (y : List ℕ). reserve (marksAt Write (length t)) (storesOf (length t) k y) k y) (i .area)
-      ∙ ap (λ (y : List ℕ). reserve (marksAt Write (length t)) y k (placed (length t) k (runAt image t k) a))
-      (placed-stores (length t) (runAt image t k) (fits image t a k c h) (countOf image) k a (c .sized) h (checked-passed image t a c)))
+      ∙ ap (λ (y : List ℕ). reserve (marksAt Write (length t)) y k (placed (length t) k (runAt image t g k) a))
+      (placed-stores (length t) (runAt image t g k) (fits image t g a k c h) (countOf image) k a (c .sized) h (checked-passed image t a c)))
 
-  module _ (d : List ℕ) (g : d ≡ reserve (marksAt Write (length t)) (storesOf (length t) k b) k b) where
+  module _ (d : List ℕ) (f : d ≡ reserve (marksAt Write (length t)) (storesOf (length t) k b) k b) where
     pub after-stores : Slotted (length t) k d
     after-stores =
-        subst (λ (y : List ℕ). Slotted (length t) k y) (sym (writes-are d g))
-        (program-slotted image t (marked (length t) k (runAt image t k) a) (marked-checked image t a k c h) k h)
+        subst (λ (y : List ℕ). Slotted (length t) k y) (sym (writes-are d f))
+        (program-slotted image t (marked (length t) k (runAt image t g k) a) (marked-checked image t g a k c h) k h)
 
-    pub after-reads : (z : List ℕ) → z ≡ reserve (marksAt Read (length t)) (readsOf (length t) k d) k d → Gathers image t a k x z
+    pub after-reads : (z : List ℕ) → z ≡ reserve (marksAt Read (length t)) (readsOf (length t) k d) k d → Gathers image t g a k x z
     unfolding gatheredBy reserved
     after-reads z q =
         record {
           answer = i .answer;
           area =
               q
-              ∙ (ap (λ (y : List ℕ). reserve (marksAt Read (length t)) (readsOf (length t) k y) k y) (writes-are d g)
-              ∙ ap (λ (y : List ℕ). reserve (marksAt Read (length t)) y k (marked (length t) k (runAt image t k) a))
-              (marked-reads (length t) (runAt image t k) (fits image t a k c h) (countOf image) k a (c .sized) h (checked-passed image t a c)));
+              ∙ (ap (λ (y : List ℕ). reserve (marksAt Read (length t)) (readsOf (length t) k y) k y) (writes-are d f)
+              ∙ ap (λ (y : List ℕ). reserve (marksAt Read (length t)) y k (marked (length t) k (runAt image t g k) a))
+              (marked-reads (length t) (runAt image t g k) (fits image t g a k c h) (countOf image) k a (c .sized) h (checked-passed image t a c)));
         }
 
 -- ---- settling
 
-module _ (image t a : List ℕ) (k : ℕ) (r : Refusal) (e : r ≡ settleRefusal image t a k) where
-  pub settle-refused : (r .number ≡ 0 → ⊥) → SettleSays image t a k (settling.Refused r) t a
+module _ (image t g a : List ℕ) (k : ℕ) (r : Refusal) (e : r ≡ settleRefusal image t g a k) where
+  pub settle-refused : (r .number ≡ 0 → ⊥) → SettleSays image t g a k (settling.Refused r) t a
   unfolding settleAnswer settleTable settleArea
   settle-refused h =
       record { answer = refused-as settling.Refused _ e h; table = refused-as (λ r. t) _ e h; area = refused-as (λ r. a) _ e h }
 
-  pub settle-done : r .number ≡ 0 → (x : Settled) (t′ a′ : List ℕ) → Settles image t a k x t′ a′ → SettleSays image t a k x t′ a′
+  pub settle-done : r .number ≡ 0 → (x : Settled) (t′ a′ : List ℕ) → Settles image t a k x t′ a′ → SettleSays image t g a k x t′ a′
   unfolding settleAnswer settleTable settleArea
   settle-done h x t′ a′ w =
       record {

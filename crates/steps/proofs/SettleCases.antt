@@ -16,6 +16,21 @@ use Rattle.steps.specs.Opened.{opened}
 
 -- ---- how a case is written
 
+-- Guards that close every cell. Only a run's stores are judged, at its gathering (document 02, ask 5), so no case here notices them.
+abbrev closed : List ℕ → List ℕ
+closed [] = []
+closed (x ∷ t) = 1 ∷ 0 ∷ closed t
+
+-- what settling answers, and the table and the area that it leaves
+abbrev answer : (i t a : List ℕ) → ℕ → Settled
+answer i t a k = settleAnswer i t (closed t) a k
+
+abbrev table : (i t a : List ℕ) → ℕ → List ℕ
+table i t a k = settleTable i t (closed t) a k
+
+abbrev areaOf : (i t a : List ℕ) → ℕ → List ℕ
+areaOf i t a k = settleArea i t (closed t) a k
+
 -- two programs, under a rule byte; their instructions do not matter any more
 abbrev two : ℕ → List ℕ
 two rule = image rule ([] ∷ [] ∷ [])
@@ -47,13 +62,13 @@ each f rule =
 
 -- "An outcome is committed, or carried for one reason out of three: 1 WAW, looked at first; 2 RAW (Rule 1); 3 RAW with WAR (Rule 2)."
 -- Byte 0 "means Rule 1".
-rule-1 : map (each settleAnswer) (0 ∷ 1 ∷ [])
+rule-1 : map (each answer) (0 ∷ 1 ∷ [])
     ≡ replicate 2
     (Committed ∷ Carried Waw ∷ Carried Raw ∷ Committed ∷ Carried Waw ∷ Carried Waw ∷ Carried Raw ∷ Carried Waw ∷ [])
 unfolding opened
 rule-1 = refl
 
-rule-2 : each settleAnswer 2
+rule-2 : each answer 2
     ≡ Committed ∷ Carried Waw ∷ Committed ∷ Committed ∷ Carried Waw ∷ Carried Waw ∷ Carried RawWithWar ∷ Carried Waw ∷ []
 unfolding opened
 rule-2 = refl
@@ -66,7 +81,7 @@ numbers = refl
 -- program k of three that read and store the one cell, whose marks are this, under rule bytes 0, 1, 2
 abbrev own : ℕ → ℕ → List Settled
 own mark k =
-    map (λ rule. settleAnswer (image rule ([] ∷ [] ∷ [] ∷ [])) (8 ∷ [])
+    map (λ rule. answer (image rule ([] ∷ [] ∷ [] ∷ [])) (8 ∷ [])
     (area (mark ∷ []) (mark ∷ []) (replicate 3 (slot 1 0 (0 ∷ []) (0 ∷ []) (60 ∷ [])))) k) (0 ∷ 1 ∷ 2 ∷ [])
 
 -- neither its own marks nor a later program's are against program 1: its own read is no WAR
@@ -82,10 +97,10 @@ number-0 = refl
 -- ---- "Settling .. changes only its state and detail and, on a commit, the table."
 
 -- a commit and each reason; the marks stay, and so do the lists
-area-after : settleArea (two 1) (8 ∷ 9 ∷ []) (marked (0 ∷ 2 ∷ []) (1 ∷ 1 ∷ [])) 1
-    ∷ settleArea (two 1) (8 ∷ 9 ∷ []) (marked (0 ∷ 1 ∷ []) (2 ∷ 0 ∷ [])) 1
-    ∷ settleArea (two 1) (8 ∷ 9 ∷ []) (marked (1 ∷ 2 ∷ []) (2 ∷ 0 ∷ [])) 1
-    ∷ settleArea (two 2) (8 ∷ 9 ∷ []) (marked (1 ∷ 2 ∷ []) (2 ∷ 1 ∷ [])) 1
+area-after : areaOf (two 1) (8 ∷ 9 ∷ []) (marked (0 ∷ 2 ∷ []) (1 ∷ 1 ∷ [])) 1
+    ∷ areaOf (two 1) (8 ∷ 9 ∷ []) (marked (0 ∷ 1 ∷ []) (2 ∷ 0 ∷ [])) 1
+    ∷ areaOf (two 1) (8 ∷ 9 ∷ []) (marked (1 ∷ 2 ∷ []) (2 ∷ 0 ∷ [])) 1
+    ∷ areaOf (two 2) (8 ∷ 9 ∷ []) (marked (1 ∷ 2 ∷ []) (2 ∷ 1 ∷ [])) 1
     ∷ []
     ≡ standing 4 0 (0 ∷ 2 ∷ []) (1 ∷ 1 ∷ [])
     ∷ standing 5 1 (0 ∷ 1 ∷ []) (2 ∷ 0 ∷ [])
@@ -96,13 +111,13 @@ unfolding opened
 area-after = refl
 
 -- the table takes the 60 where the program is committed, and else stays
-table-after : each settleTable 1 ∷ each settleTable 2 ∷ []
+table-after : each table 1 ∷ each table 2 ∷ []
     ≡ map (map (λ v. 8 ∷ v ∷ [])) ((60 ∷ 9 ∷ 9 ∷ 60 ∷ 9 ∷ 9 ∷ 9 ∷ 9 ∷ []) ∷ (60 ∷ 9 ∷ 60 ∷ 60 ∷ 9 ∷ 9 ∷ 9 ∷ 9 ∷ []) ∷ [])
 unfolding opened
 table-after = refl
 
 -- "A committed program's stores go into the table at its settling, in the slot's order.": a made-up slot with a cell twice
-in-slot-order : settleTable (image 1 ([] ∷ [])) (7 ∷ 8 ∷ 9 ∷ []) (area (replicate 3 0) (replicate 3 0) (slot 1 0 [] (1 ∷ 0 ∷ 1 ∷ []) (4 ∷ 5 ∷ 6 ∷ []) ∷ [])) 0
+in-slot-order : table (image 1 ([] ∷ [])) (7 ∷ 8 ∷ 9 ∷ []) (area (replicate 3 0) (replicate 3 0) (slot 1 0 [] (1 ∷ 0 ∷ 1 ∷ []) (4 ∷ 5 ∷ 6 ∷ []) ∷ [])) 0
     ≡ 5 ∷ 6 ∷ 9 ∷ []
 unfolding opened
 in-slot-order = refl
@@ -118,18 +133,18 @@ example-1-in state-0 state-1 state-2 detail-2 =
     ∷ []
     )
 
-one-program : (map (settleArea (example-1 2) (9 ∷ 4 ∷ []) (example-1-in 1 1 1 0)) (0 ∷ 1 ∷ 2 ∷ []) ≡ example-1-in 4 1 1 0 ∷ example-1-in 1 4 1 0 ∷ example-1-in 1 1 5 1 ∷ [])
-    × (map (settleTable (example-1 2) (9 ∷ 4 ∷ []) (example-1-in 1 1 1 0)) (0 ∷ 1 ∷ 2 ∷ []) ≡ (10 ∷ 4 ∷ []) ∷ (9 ∷ 5 ∷ []) ∷ (9 ∷ 4 ∷ []) ∷ [])
+one-program : (map (areaOf (example-1 2) (9 ∷ 4 ∷ []) (example-1-in 1 1 1 0)) (0 ∷ 1 ∷ 2 ∷ []) ≡ example-1-in 4 1 1 0 ∷ example-1-in 1 4 1 0 ∷ example-1-in 1 1 5 1 ∷ [])
+    × (map (table (example-1 2) (9 ∷ 4 ∷ []) (example-1-in 1 1 1 0)) (0 ∷ 1 ∷ 2 ∷ []) ≡ (10 ∷ 4 ∷ []) ∷ (9 ∷ 5 ∷ []) ∷ (9 ∷ 4 ∷ []) ∷ [])
 unfolding opened
 one-program = (refl, refl)
 
 -- and last of all: the others stay as they were settled
-one-program-last : (settleArea (example-1 2) (10 ∷ 4 ∷ []) (example-1-in 4 1 5 1) 1 ≡ example-1-in 4 4 5 1)
-    × (settleTable (example-1 2) (10 ∷ 4 ∷ []) (example-1-in 4 1 5 1) 1 ≡ 10 ∷ 5 ∷ [])
+one-program-last : (areaOf (example-1 2) (10 ∷ 4 ∷ []) (example-1-in 4 1 5 1) 1 ≡ example-1-in 4 4 5 1)
+    × (table (example-1 2) (10 ∷ 4 ∷ []) (example-1-in 4 1 5 1) 1 ≡ 10 ∷ 5 ∷ [])
 unfolding opened
 one-program-last = (refl, refl)
 
 -- what the call's contract says of all this
-settling-says : SettleSays (example-1 2) (9 ∷ 4 ∷ []) (example-1-in 1 1 1 0) 1 Committed (9 ∷ 5 ∷ []) (example-1-in 1 4 1 0)
+settling-says : SettleSays (example-1 2) (9 ∷ 4 ∷ []) (closed (9 ∷ 4 ∷ [])) (example-1-in 1 1 1 0) 1 Committed (9 ∷ 5 ∷ []) (example-1-in 1 4 1 0)
 unfolding opened
 settling-says = record { answer = refl; table = refl; area = refl }

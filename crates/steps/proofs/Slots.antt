@@ -32,12 +32,12 @@ put-is T k at a s e =
     ap (λ (z : List ℕ). take at a ++ (s ++ z)) (post-is at (at + slotWords) a (omega arith))
     ∙ ap (λ (x : ℕ). take x a ++ (s ++ drop (x + slotWords) a)) e
 
-pub runs-into : (image t a : List ℕ) (k at : ℕ) (p s : List ℕ) (r : Run) → at ≡ slotStart (length t) k → p ≡ partOf image k → RunSays p t r s
-    → RunsInto image t a k r (putMid at (at + slotWords - at) a s)
-runs-into image t a k at p s r e g w =
+pub runs-into : (image t g a : List ℕ) (k at : ℕ) (p s : List ℕ) (r : Run) → at ≡ slotStart (length t) k → p ≡ partOf image k → RunSays p t g r s
+    → RunsInto image t g a k r (putMid at (at + slotWords - at) a s)
+runs-into image t g a k at p s r e f w =
     record {
-      answer = w .answer ∙ ap (λ (x : List ℕ). runOf x t .answer) g;
+      answer = w .answer ∙ ap (λ (x : List ℕ). runOf x t g .answer) f;
       area =
           put-is (length t) k at a s e
-          ∙ ap (λ (x : List ℕ). withSlot (length t) k x a) (w .left ∙ ap (λ (x : List ℕ). slotOf (runOf x t)) g);
+          ∙ ap (λ (x : List ℕ). withSlot (length t) k x a) (w .left ∙ ap (λ (x : List ℕ). slotOf (runOf x t g)) f);
     }

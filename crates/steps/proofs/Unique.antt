@@ -20,19 +20,19 @@ use Rattle.steps.proofs.settle_checked.Kinds as settle-checked-kinds
 use Rattle.steps.proofs.settle_checked.Reads as settle-checked
 
 -- the answer and the area
-pub open-unique : Unique {A = Refusal × List ℕ} 3 open-kinds.ps open-kinds.r (λ κs x s. (x, now (s .1 .1 .0))) opening.Post
+pub open-unique : Unique {A = Refusal × List ℕ} 4 open-kinds.ps open-kinds.r (λ κs x s. (x, now (s .1 .1 .1 .0))) opening.Post
 open-unique κs a x y s t p q = cc
 
-pub gather-unique : Unique {A = Gathered × List ℕ} 3 gather-kinds.ps gather-kinds.r (λ κs x s. (x, now (s .1 .1 .0))) gather.Post
+pub gather-unique : Unique {A = Gathered × List ℕ} 4 gather-kinds.ps gather-kinds.r (λ κs x s. (x, now (s .1 .1 .1 .0))) gather.Post
 gather-unique κs a x y s t p q = cc
 
-pub gather-checked-unique : Unique {A = Run × List ℕ} 3 gather-checked-kinds.ps gather-checked-kinds.r
-    (λ κs x s. (x, now (s .1 .1 .0))) gather-checked.Post
+pub gather-checked-unique : Unique {A = Run × List ℕ} 4 gather-checked-kinds.ps gather-checked-kinds.r
+    (λ κs x s. (x, now (s .1 .1 .1 .0))) gather-checked.Post
 gather-checked-unique κs a x y s t p q = cc
 
 -- the answer, the table and the area
-pub settle-unique : Unique {A = Settled × List ℕ × List ℕ} 3 settle-kinds.ps settle-kinds.r
-    (λ κs x s. (x, now (s .1 .0), now (s .1 .1 .0))) settle.Post
+pub settle-unique : Unique {A = Settled × List ℕ × List ℕ} 4 settle-kinds.ps settle-kinds.r
+    (λ κs x s. (x, now (s .1 .0), now (s .1 .1 .1 .0))) settle.Post
 settle-unique κs a x y s t p q = cc
 
 pub settle-checked-unique : Unique {A = Settled × List ℕ × List ℕ} 3 settle-checked-kinds.ps settle-checked-kinds.r

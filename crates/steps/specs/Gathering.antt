@@ -21,20 +21,20 @@ use Rattle.area.specs.Checks.{callRefusal}
 use Rattle.steps.specs.declared.Gathered.{Gathered}
 use Rattle.steps.specs.declared.Gathered.the-variants.{Refused, Ran}
 
--- checks 1 to 8, which every step begins with
-unfoldable pub stepRefusal : List ℕ → List ℕ → List ℕ → ℕ → Refusal
-stepRefusal image t a k = after (callRefusal image t a) (check (ltb k (countOf image)) refusal.number refusal.none)
+-- checks 1 to 8, with 14 in its place, which every step begins with
+unfoldable pub stepRefusal : (image t g a : List ℕ) → ℕ → Refusal
+stepRefusal image t g a k = after (callRefusal image t g a) (check (ltb k (countOf image)) refusal.number refusal.none)
 
 -- 9, "gathering: state not 0"
 unfoldable pub waits : ℕ → ℕ → List ℕ → Bool
 waits T k a = eqb (stateOf T k a) waiting
 
-unfoldable pub gatherRefusal : List ℕ → List ℕ → List ℕ → ℕ → Refusal
-gatherRefusal image t a k = after (stepRefusal image t a k) (check (waits (length t) k a) refusal.state refusal.none)
+unfoldable pub gatherRefusal : (image t g a : List ℕ) → ℕ → Refusal
+gatherRefusal image t g a k = after (stepRefusal image t g a k) (check (waits (length t) k a) refusal.state refusal.none)
 
--- program k of the image on the table t
-abbrev pub runAt : List ℕ → List ℕ → ℕ → Outcome
-runAt image t k = runOf (partOf image k) t
+-- program k of the image on the table t, with the guards g
+abbrev pub runAt : (image t g : List ℕ) → ℕ → Outcome
+runAt image t g k = runOf (partOf image k) t g
 
 -- program k reserves what it stores and what it reads; one that rejects or faults keeps nothing to reserve
 unfoldable pub reserved : ℕ → ℕ → Log → List ℕ → List ℕ
@@ -44,26 +44,26 @@ unfoldable pub gatheredBy : ℕ → ℕ → Outcome → List ℕ → List ℕ
 gatheredBy T k o a = reserved T k (keptBy o) (withSlot T k (slotOf o) a)
 
 -- the area after program k is gathered, and after the call
-abbrev pub gatheredArea : List ℕ → List ℕ → ℕ → List ℕ → List ℕ
-gatheredArea image t k a = gatheredBy (length t) k (runAt image t k) a
+abbrev pub gatheredArea : (image t g : List ℕ) → ℕ → List ℕ → List ℕ
+gatheredArea image t g k a = gatheredBy (length t) k (runAt image t g k) a
 
-unfoldable pub gatherAnswer : List ℕ → List ℕ → List ℕ → ℕ → Gathered
-gatherAnswer image t a k = unless (gatherRefusal image t a k) Refused (Ran (runAt image t k .answer))
+unfoldable pub gatherAnswer : (image t g a : List ℕ) → ℕ → Gathered
+gatherAnswer image t g a k = unless (gatherRefusal image t g a k) Refused (Ran (runAt image t g k .answer))
 
-unfoldable pub gatherArea : List ℕ → List ℕ → List ℕ → ℕ → List ℕ
-gatherArea image t a k = unless (gatherRefusal image t a k) (λ r. a) (gatheredArea image t k a)
+unfoldable pub gatherArea : (image t g a : List ℕ) → ℕ → List ℕ
+gatherArea image t g a k = unless (gatherRefusal image t g a k) (λ r. a) (gatheredArea image t g k a)
 
 -- The contract of the call.
-pub record GatherSays (image t a : List ℕ) (k : ℕ) (r : Gathered) (a′ : List ℕ) : Type 0 where
-  pub answer : r ≡ gatherAnswer image t a k
-  pub area : a′ ≡ gatherArea image t a k
+pub record GatherSays (image t g a : List ℕ) (k : ℕ) (r : Gathered) (a′ : List ℕ) : Type 0 where
+  pub answer : r ≡ gatherAnswer image t g a k
+  pub area : a′ ≡ gatherArea image t g a k
 
 -- The same where the checks have been made.
-pub record Gathers (image t a : List ℕ) (k : ℕ) (r : Run) (a′ : List ℕ) : Type 0 where
-  pub answer : r ≡ runAt image t k .answer
-  pub area : a′ ≡ gatheredArea image t k a
+pub record Gathers (image t g a : List ℕ) (k : ℕ) (r : Run) (a′ : List ℕ) : Type 0 where
+  pub answer : r ≡ runAt image t g k .answer
+  pub area : a′ ≡ gatheredArea image t g k a
 
 -- The run alone, in its slot.
-pub record RunsInto (image t a : List ℕ) (k : ℕ) (r : Run) (a′ : List ℕ) : Type 0 where
-  pub answer : r ≡ runAt image t k .answer
-  pub area : a′ ≡ withSlot (length t) k (slotOf (runAt image t k)) a
+pub record RunsInto (image t g a : List ℕ) (k : ℕ) (r : Run) (a′ : List ℕ) : Type 0 where
+  pub answer : r ≡ runAt image t g k .answer
+  pub area : a′ ≡ withSlot (length t) k (slotOf (runAt image t g k)) a

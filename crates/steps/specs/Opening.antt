@@ -11,10 +11,10 @@ abbrev pub cleared : List ℕ → List ℕ
 cleared a = replicate (length a) 0
 
 -- the area after the call
-unfoldable pub openArea : List ℕ → List ℕ → List ℕ → List ℕ
-openArea image t a = unless (openRefusal image t a) (λ r. a) (cleared a)
+unfoldable pub openArea : (image t g a : List ℕ) → List ℕ
+openArea image t g a = unless (openRefusal image t g a) (λ r. a) (cleared a)
 
 -- The contract of the call.
-pub record OpenSays (image t a : List ℕ) (r : Refusal) (a′ : List ℕ) : Type 0 where
-  pub answer : r ≡ openRefusal image t a
-  pub area : a′ ≡ openArea image t a
+pub record OpenSays (image t g a : List ℕ) (r : Refusal) (a′ : List ℕ) : Type 0 where
+  pub answer : r ≡ openRefusal image t g a
+  pub area : a′ ≡ openArea image t g a

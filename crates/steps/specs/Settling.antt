@@ -27,9 +27,9 @@ use Rattle.steps.specs.Gathering.{stepRefusal}
 unfoldable pub isReady : ℕ → ℕ → ℕ → List ℕ → Bool
 isReady T n k a = noneWaits T n a && canSettle (stateOf T k a)
 
-unfoldable pub settleRefusal : List ℕ → List ℕ → List ℕ → ℕ → Refusal
-settleRefusal image t a k =
-    after (stepRefusal image t a k) (check (isReady (length t) (countOf image) k a) refusal.state refusal.none)
+unfoldable pub settleRefusal : (image t g a : List ℕ) → ℕ → Refusal
+settleRefusal image t g a k =
+    after (stepRefusal image t g a k) (check (isReady (length t) (countOf image) k a) refusal.state refusal.none)
 
 -- "Rule 1 commits without WAW and without RAW. Rule 2 commits without WAW and not with both RAW and WAR." The reasons: "1 WAW, looked at first; 2 RAW
 -- (Rule 1); 3 RAW with WAR (Rule 2)".
@@ -71,20 +71,20 @@ unfoldable pub settledArea : Settled → ℕ → ℕ → List ℕ → List ℕ
 settledArea v T k a = withState T k (numbersOfSettled v .state) (numbersOfSettled v .detail) a
 
 -- what the call answers and leaves
-unfoldable pub settleAnswer : List ℕ → List ℕ → List ℕ → ℕ → Settled
-settleAnswer image t a k = unless (settleRefusal image t a k) Refused (verdict image (length t) k a)
+unfoldable pub settleAnswer : (image t g a : List ℕ) → ℕ → Settled
+settleAnswer image t g a k = unless (settleRefusal image t g a k) Refused (verdict image (length t) k a)
 
-unfoldable pub settleTable : List ℕ → List ℕ → List ℕ → ℕ → List ℕ
-settleTable image t a k = unless (settleRefusal image t a k) (λ r. t) (settledTable (verdict image (length t) k a) k a t)
+unfoldable pub settleTable : (image t g a : List ℕ) → ℕ → List ℕ
+settleTable image t g a k = unless (settleRefusal image t g a k) (λ r. t) (settledTable (verdict image (length t) k a) k a t)
 
-unfoldable pub settleArea : List ℕ → List ℕ → List ℕ → ℕ → List ℕ
-settleArea image t a k = unless (settleRefusal image t a k) (λ r. a) (settledArea (verdict image (length t) k a) (length t) k a)
+unfoldable pub settleArea : (image t g a : List ℕ) → ℕ → List ℕ
+settleArea image t g a k = unless (settleRefusal image t g a k) (λ r. a) (settledArea (verdict image (length t) k a) (length t) k a)
 
 -- The contract of the call.
-pub record SettleSays (image t a : List ℕ) (k : ℕ) (r : Settled) (t′ a′ : List ℕ) : Type 0 where
-  pub answer : r ≡ settleAnswer image t a k
-  pub table : t′ ≡ settleTable image t a k
-  pub area : a′ ≡ settleArea image t a k
+pub record SettleSays (image t g a : List ℕ) (k : ℕ) (r : Settled) (t′ a′ : List ℕ) : Type 0 where
+  pub answer : r ≡ settleAnswer image t g a k
+  pub table : t′ ≡ settleTable image t g a k
+  pub area : a′ ≡ settleArea image t g a k
 
 -- The same where the checks have been made.
 pub record Settles (image t a : List ℕ) (k : ℕ) (r : Settled) (t′ a′ : List ℕ) : Type 0 where

@@ -3,7 +3,7 @@ ghost use mathlib.Core.Path.{_≡_};
 ghost use Prim.Native.Nat.{_<_};
 ghost use lib.ListN.{length};
 ghost use Rattle.image.specs.Image.{countOf};
-ghost use Rattle.area.specs.Checks.{Checked, Measured, Slotted};
+ghost use Rattle.area.specs.Checks.{Checked, Paired, Measured, Slotted};
 ghost use Rattle.steps.specs.Answers.{numbersOfSettled, reasonNumber};
 ghost use Rattle.steps.specs.Opening.{OpenSays};
 ghost use Rattle.steps.specs.Gathering.{stepRefusal, gatherRefusal, GatherSays, Gathers, RunsInto};
@@ -38,10 +38,10 @@ pub enum Verdict {
 }
 
 // Opening sets the whole area to 0.
-pub fn open(image: &[u8], table: &[u32], area: &mut [u32]) -> image::Refusal
-    ensures { λ r. ⌜ OpenSays (now (image .entry)) (now (table .entry)) (now (area .entry)) r (now (area .exit)) ⌝ }
+pub fn open(image: &[u8], table: &[u32], guards: &[u32], area: &mut [u32]) -> image::Refusal
+    ensures { λ r. ⌜ OpenSays (now (image .entry)) (now (table .entry)) (now (guards .entry)) (now (area .entry)) r (now (area .exit)) ⌝ }
 {
-    let refused = area::open_refusal(image::image_refusal(image), image, table, area);
+    let refused = area::open_refusal(image::image_refusal(image), image, table, guards, area);
     if refused.number != 0 {
         return refused;
     }
@@ -49,11 +49,17 @@ pub fn open(image: &[u8], table: &[u32], area: &mut [u32]) -> image::Refusal
     image::Refusal::NONE
 }
 
-// Checks 1 to 8, which every step begins with.
-pub fn step_refusal(image: &[u8], table: &[u32], area: &[u32], number: usize) -> image::Refusal
-    ensures { λ r. ⌜ r ≡ stepRefusal (now (image .entry)) (now (table .entry)) (now (area .entry)) number ⌝ }
+// Checks 1 to 8, with 14 in its place, which every step begins with.
+pub fn step_refusal(
+    image: &[u8],
+    table: &[u32],
+    guards: &[u32],
+    area: &[u32],
+    number: usize,
+) -> image::Refusal
+    ensures { λ r. ⌜ r ≡ stepRefusal (now (image .entry)) (now (table .entry)) (now (guards .entry)) (now (area .entry)) number ⌝ }
 {
-    let refused = area::call_refusal(image::image_refusal(image), image, table, area);
+    let refused = area::call_refusal(image::image_refusal(image), image, table, guards, area);
     if refused.number != 0 {
         return refused;
     }
@@ -64,10 +70,16 @@ pub fn step_refusal(image: &[u8], table: &[u32], area: &[u32], number: usize) ->
 }
 
 // Checks 1 to 9 of gathering.
-fn gather_refusal(image: &[u8], table: &[u32], area: &[u32], number: usize) -> image::Refusal
-    ensures { λ r. ⌜ r ≡ gatherRefusal (now (image .entry)) (now (table .entry)) (now (area .entry)) number ⌝ }
+fn gather_refusal(
+    image: &[u8],
+    table: &[u32],
+    guards: &[u32],
+    area: &[u32],
+    number: usize,
+) -> image::Refusal
+    ensures { λ r. ⌜ r ≡ gatherRefusal (now (image .entry)) (now (table .entry)) (now (guards .entry)) (now (area .entry)) number ⌝ }
 {
-    let refused = step_refusal(image, table, area, number);
+    let refused = step_refusal(image, table, guards, area, number);
     if refused.number != 0 {
         return refused;
     }
@@ -78,22 +90,34 @@ fn gather_refusal(image: &[u8], table: &[u32], area: &[u32], number: usize) -> i
 }
 
 // The program's run, from its part of the image into its slot.
-fn run_into(image: &[u8], table: &[u32], area: &mut [u32], number: usize) -> machine::Run
-    requires { ⌜ Checked (now image) (now table) (now area) × (number < countOf (now image)) ⌝ }
-    ensures { λ r. ⌜ RunsInto (now (image .entry)) (now (table .entry)) (now (area .entry)) number r (now (area .exit)) ⌝ }
+fn run_into(
+    image: &[u8],
+    table: &[u32],
+    guards: &[u32],
+    area: &mut [u32],
+    number: usize,
+) -> machine::Run
+    requires { ⌜ Checked (now image) (now table) (now area) × (number < countOf (now image)) × Paired (now table) (now guards) ⌝ }
+    ensures { λ r. ⌜ RunsInto (now (image .entry)) (now (table .entry)) (now (guards .entry)) (now (area .entry)) number r (now (area .exit)) ⌝ }
 {
     let part = image::part_of(image, number);
     let at = area::slot_start(table.len(), number);
     let end = at + slot::WORDS;
-    machine::run_program(part, table, &mut area[at..end])
+    machine::run_program(part, table, guards, &mut area[at..end])
 }
 
 // Gathering, where the checks have been made.
-pub fn gather_checked(image: &[u8], table: &[u32], area: &mut [u32], number: usize) -> machine::Run
-    requires { ⌜ Checked (now image) (now table) (now area) × (number < countOf (now image)) ⌝ }
-    ensures { λ r. ⌜ Gathers (now (image .entry)) (now (table .entry)) (now (area .entry)) number r (now (area .exit)) ⌝ }
+pub fn gather_checked(
+    image: &[u8],
+    table: &[u32],
+    guards: &[u32],
+    area: &mut [u32],
+    number: usize,
+) -> machine::Run
+    requires { ⌜ Checked (now image) (now table) (now area) × (number < countOf (now image)) × Paired (now table) (now guards) ⌝ }
+    ensures { λ r. ⌜ Gathers (now (image .entry)) (now (table .entry)) (now (guards .entry)) (now (area .entry)) number r (now (area .exit)) ⌝ }
 {
-    let run = run_into(image, table, area, number);
+    let run = run_into(image, table, guards, area, number);
     let cells = table.len();
     area::reserve(
         area,
@@ -112,15 +136,21 @@ pub fn gather_checked(image: &[u8], table: &[u32], area: &mut [u32], number: usi
     run
 }
 
-// Gathering runs one waiting program on the table, rewrites its slot and makes all its reservations.
-pub fn gather(image: &[u8], table: &[u32], area: &mut [u32], number: usize) -> Gathered
-    ensures { λ r. ⌜ GatherSays (now (image .entry)) (now (table .entry)) (now (area .entry)) number r (now (area .exit)) ⌝ }
+// Gathering runs one waiting program on the table with its guards, rewrites its slot and makes all its reservations.
+pub fn gather(
+    image: &[u8],
+    table: &[u32],
+    guards: &[u32],
+    area: &mut [u32],
+    number: usize,
+) -> Gathered
+    ensures { λ r. ⌜ GatherSays (now (image .entry)) (now (table .entry)) (now (guards .entry)) (now (area .entry)) number r (now (area .exit)) ⌝ }
 {
-    let refused = gather_refusal(image, table, area, number);
+    let refused = gather_refusal(image, table, guards, area, number);
     if refused.number != 0 {
         return Gathered::Refused(refused);
     }
-    Gathered::Ran(gather_checked(image, table, area, number))
+    Gathered::Ran(gather_checked(image, table, guards, area, number))
 }
 
 // Check 9 of settling: whether no program of n waits, and this one is to be settled.
@@ -135,10 +165,16 @@ fn is_ready(area: &[u32], cells: usize, n: usize, number: usize) -> bool
 }
 
 // Checks 1 to 9 of settling.
-fn settle_refusal(image: &[u8], table: &[u32], area: &[u32], number: usize) -> image::Refusal
-    ensures { λ r. ⌜ r ≡ settleRefusal (now (image .entry)) (now (table .entry)) (now (area .entry)) number ⌝ }
+fn settle_refusal(
+    image: &[u8],
+    table: &[u32],
+    guards: &[u32],
+    area: &[u32],
+    number: usize,
+) -> image::Refusal
+    ensures { λ r. ⌜ r ≡ settleRefusal (now (image .entry)) (now (table .entry)) (now (guards .entry)) (now (area .entry)) number ⌝ }
 {
-    let refused = step_refusal(image, table, area, number);
+    let refused = step_refusal(image, table, guards, area, number);
     if refused.number != 0 {
         return refused;
     }
@@ -244,10 +280,16 @@ pub fn settle_checked(image: &[u8], table: &mut [u32], area: &mut [u32], number:
 }
 
 // Settling decides one gathered program; a committed one's stores go into the table.
-pub fn settle(image: &[u8], table: &mut [u32], area: &mut [u32], number: usize) -> Settled
-    ensures { λ r. ⌜ SettleSays (now (image .entry)) (now (table .entry)) (now (area .entry)) number r (now (table .exit)) (now (area .exit)) ⌝ }
+pub fn settle(
+    image: &[u8],
+    table: &mut [u32],
+    guards: &[u32],
+    area: &mut [u32],
+    number: usize,
+) -> Settled
+    ensures { λ r. ⌜ SettleSays (now (image .entry)) (now (table .entry)) (now (guards .entry)) (now (area .entry)) number r (now (table .exit)) (now (area .exit)) ⌝ }
 {
-    let refused = settle_refusal(image, table, area, number);
+    let refused = settle_refusal(image, table, guards, area, number);
     if refused.number != 0 {
         return Settled::Refused(refused);
     }

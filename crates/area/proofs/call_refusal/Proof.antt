@@ -11,12 +11,12 @@ use Rattle.area.proofs.call_refusal.Statement.{statement}
 use Rattle.area.proofs.call_refusal.Tie as tie
 
 abbrev start : tie.Else1 → tie.Start
-start c = c .before .before .before .before .before .before
+start c = c .before .before .before .before .before .before .before
 
 abbrev first-of : tie.After-words-good → tie.Else1
 first-of c = c .before .before
 
-passed : (c : tie.Else1) → let a = start c .args in openRefusal (a .image .now) (a .table .now) (a .area .now) .number ≡ 0
+passed : (c : tie.Else1) → let a = start c .args in openRefusal (a .image .now) (a .table .now) (a .guards .now) (a .area .now) .number ≡ 0
 passed c = number-of (sym (c .before .before .open-refusal .ensures)) ∙ c .if1 .left
 
 looked : (c : tie.After-words-good)
@@ -28,7 +28,7 @@ unfolding callRefusal
 returns c = first-refuses _ (c .before .before .open-refusal .ensures) (c .if1 .taken)
 
 words-good-requires : tie.Need-words-good-requires
-words-good-requires c κs = room-measured _ _ _ (passed (c .before)) _ (c .count .ensures .0)
+words-good-requires c κs = room-measured _ _ _ _ (passed (c .before)) _ (c .count .ensures .0)
 
 returns-2 : tie.Need-returns-2
 unfolding callRefusal

@@ -11,12 +11,12 @@ use Rattle.area.proofs.ended_refusal.Statement.{statement}
 use Rattle.area.proofs.ended_refusal.Tie as tie
 
 abbrev start : tie.Else1 → tie.Start
-start c = c .before .before .before .before .before .before .before
+start c = c .before .before .before .before .before .before .before .before
 
 abbrev first-of : tie.After-states-from → tie.Else1
 first-of c = c .before .before
 
-passed : (c : tie.Else1) → let a = start c .args in callRefusal (a .image .now) (a .table .now) (a .area .now) .number ≡ 0
+passed : (c : tie.Else1) → let a = start c .args in callRefusal (a .image .now) (a .table .now) (a .guards .now) (a .area .now) .number ≡ 0
 passed c = number-of (sym (c .before .before .call-refusal .ensures)) ∙ c .if1 .left
 
 looked : (c : tie.After-states-from)
@@ -28,7 +28,7 @@ unfolding endedRefusal
 returns c = first-refuses _ (c .before .before .call-refusal .ensures) (c .if1 .taken)
 
 states-from-requires : tie.Need-states-from-requires
-states-from-requires c κs = measured _ _ _ (checked _ _ _ (passed (c .before))) _ (c .count .ensures .0)
+states-from-requires c κs = measured _ _ _ (checked _ _ _ _ (passed (c .before))) _ (c .count .ensures .0)
 
 returns-2 : tie.Need-returns-2
 unfolding endedRefusal

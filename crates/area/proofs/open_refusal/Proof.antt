@@ -10,18 +10,18 @@ use Rattle.area.proofs.open_refusal.Tie as tie
 
 returns : tie.Need-returns
 unfolding openRefusal
-returns c = first-refuses _ (c .before .before .before .before .before .pre) (c .if1 .taken)
+returns c = first-refuses _ (c .before .before .before .before .before .before .pre) (c .if1 .taken)
 
 room-refusal-requires : tie.Need-room-refusal-requires
 room-refusal-requires c κs =
-    let h = few _ (number-of (sym (c .before .before .before .before .before .before .pre)) ∙ c .before .if1 .left) in
+    let h = few _ (number-of (sym (c .before .before .before .before .before .before .before .pre)) ∙ c .before .if1 .left) in
     omega (arith, h, c .count .ensures .0)
 
 returns-2 : tie.Need-returns-2
 unfolding openRefusal
 returns-2 c =
     let n = c .before in
-    first-passes (n .before .before .before .before .before .before .pre) (n .before .if1 .left)
+    first-passes (n .before .before .before .before .before .before .before .pre) (n .before .if1 .left)
     (rw (← n .count .ensures .0) (c .room-refusal .ensures))
 
 pub open-refusal-spec : {M : Type 1} → statement M

@@ -13,18 +13,18 @@ use Rattle.carry.proofs.next_image.Statement.{statement}
 use Rattle.carry.proofs.next_image.Tie as tie
 
 abbrev start-of : tie.After-lent-refusal → tie.Start
-start-of c = c .before .before .before .before .before .before
+start-of c = c .before .before .before .before .before .before .before
 
 -- what is lent is not refused
 lent : (c : tie.Else1)
-    → (let a = start-of (c .before .before) .args in lentRefusal (a .image .now) (a .table .now) (a .area .now) (a .fresh .now) .number ≡ 0)
+    → (let a = start-of (c .before .before) .args in lentRefusal (a .image .now) (a .table .now) (a .guards .now) (a .area .now) (a .fresh .now) .number ≡ 0)
 lent c = number-of (sym (c .before .before .lent-refusal .ensures)) ∙ c .if1 .left
 
 abbrev begin-of : tie.After-count3 → tie.Start
 begin-of c = start-of (c .before .before .before .before .before .before)
 
 chosen : (c : tie.After-count3) → (let a = begin-of c .args in let m = c .before .before .count2 .result in
-    Chosen (a .image .now) (a .table .now) (a .area .now) (a .fresh .now) (c .before .before .before .count .result) m (c .before .members .result) (c .count3 .result + m))
+    Chosen (a .image .now) (a .table .now) (a .guards .now) (a .area .now) (a .fresh .now) (c .before .before .before .count .result) m (c .before .members .result) (c .count3 .result + m))
 chosen c = record {
   lent = lent (c .before .before .before .before);
   n-is = c .before .before .before .count .ensures .0;
@@ -37,15 +37,15 @@ returns : tie.Need-returns
 unfolding nextRefusal
 returns c =
     let a = start-of (c .before .before) .args in
-    next-refused (a .image .now) (a .table .now) (a .area .now) (a .fresh .now) (a .out .now) _
+    next-refused (a .image .now) (a .table .now) (a .guards .now) (a .area .now) (a .fresh .now) (a .out .now) _
     (first-refuses _ (c .before .before .lent-refusal .ensures) (c .if1 .taken)) (c .if1 .taken)
 
 members-requires : tie.Need-members-requires
 members-requires c κs =
-    measured _ _ _ (lent-shows _ _ _ _ (lent (c .before .before)) .0) _ (c .before .count .ensures .0)
+    measured _ _ _ (lent-shows _ _ _ _ _ (lent (c .before .before)) .0) _ (c .before .count .ensures .0)
 
 count-requires-3 : tie.Need-count-requires-3
-count-requires-3 c κs = omega (arith, lent-shows _ _ _ _ (lent (c .before .before .before)) .0 .programs, c .before .before .count .ensures .0)
+count-requires-3 c κs = omega (arith, lent-shows _ _ _ _ _ (lent (c .before .before .before)) .0 .programs, c .before .before .count .ensures .0)
 
 size-refusal-requires : tie.Need-size-refusal-requires
 size-refusal-requires c κs = chosen-sources (chosen (c .before))
@@ -55,7 +55,7 @@ returns-2 c =
     let s = c .before .before in
     let k = s .before .before in
     let a = begin-of k .args in
-    next-refused (a .image .now) (a .table .now) (a .area .now) (a .fresh .now) (a .out .now) _
+    next-refused (a .image .now) (a .table .now) (a .guards .now) (a .area .now) (a .fresh .now) (a .out .now) _
     (chosen-size (chosen k) (a .out .now) (s .size-refusal .ensures)) (c .if2 .taken)
 
 write-next-requires : tie.Need-write-next-requires

@@ -13,7 +13,7 @@ use Rattle.causes.proofs.ask_refusal.Statement.{statement}
 use Rattle.causes.proofs.ask_refusal.Tie as tie
 
 abbrev start : tie.Else1 → tie.Start
-start c = c .before .before .before .before .before .before
+start c = c .before .before .before .before .before .before .before
 
 looked : (c : tie.After-states-from)
     → let a = start (c .before .before) .args in c .states-from .result ≡ allEnded (length (a .table .now)) (countOf (a .image .now)) (a .area .now)
@@ -26,7 +26,7 @@ returns c = first-refuses _ (c .before .before .step-refusal .ensures) (c .if1 .
 states-from-requires : tie.Need-states-from-requires
 states-from-requires c κs =
     let p = c .before in
-    let shown = step-shows _ _ _ _ (number-of (sym (p .before .before .step-refusal .ensures)) ∙ p .if1 .left) in
+    let shown = step-shows _ _ _ _ _ (number-of (sym (p .before .before .step-refusal .ensures)) ∙ p .if1 .left) in
     measured _ _ _ (shown .0) _ (c .count .ensures .0)
 
 returns-2 : tie.Need-returns-2

@@ -14,7 +14,7 @@ use Rattle.causes.proofs.carried_refusal.Statement.{statement}
 use Rattle.causes.proofs.carried_refusal.Tie as tie
 
 abbrev start : tie.Else1 → tie.Start
-start c = c .before .before .before .before .before .before
+start c = c .before .before .before .before .before .before .before
 
 looked : (c : tie.After-is-in)
     → let a = start (c .before .before) .args in c .is-in .result ≡ inGroup Carried (length (a .table .now)) (a .area .now) (a .number)
@@ -27,7 +27,7 @@ returns c = first-refuses _ (c .before .before .ask-refusal .ensures) (c .if1 .t
 
 state-requires : tie.Need-state-requires
 state-requires c κs =
-    let shown = ask-shows _ _ _ _ (number-of (sym (c .before .before .ask-refusal .ensures)) ∙ c .if1 .left) in
+    let shown = ask-shows _ _ _ _ _ (number-of (sym (c .before .before .ask-refusal .ensures)) ∙ c .if1 .left) in
     program-lies _ _ _ (shown .0) _ (shown .1)
 
 returns-2 : tie.Need-returns-2

@@ -8,13 +8,13 @@ use Rattle.causes.proofs.why.Statement.{statement}
 use Rattle.causes.proofs.why.Tie as tie
 
 returns : tie.Need-returns
-returns c = why-refused _ _ _ _ _ (c .before .before .carried-refusal .ensures) (c .if1 .taken)
+returns c = why-refused _ _ _ _ _ _ (c .before .before .carried-refusal .ensures) (c .if1 .taken)
 
 why-checked-requires : tie.Need-why-checked-requires
-why-checked-requires c κs = carried-shows _ _ _ _ (number-of (sym (c .before .before .carried-refusal .ensures)) ∙ c .if1 .left)
+why-checked-requires c κs = carried-shows _ _ _ _ _ (number-of (sym (c .before .before .carried-refusal .ensures)) ∙ c .if1 .left)
 
 returns-2 : tie.Need-returns-2
-returns-2 c = let p = c .before in why-done _ _ _ _ _ (p .before .before .carried-refusal .ensures) (p .if1 .left) _ (c .why-checked .ensures)
+returns-2 c = let p = c .before in why-done _ _ _ _ _ _ (p .before .before .carried-refusal .ensures) (p .if1 .left) _ (c .why-checked .ensures)
 
 pub why-spec : {M : Type 1} → statement M
 why-spec = tie.close (tie.spec (λ c κs. search needs) returns why-checked-requires returns-2)

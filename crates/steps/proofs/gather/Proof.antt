@@ -8,15 +8,15 @@ use Rattle.steps.proofs.gather.Statement.{statement}
 use Rattle.steps.proofs.gather.Tie as tie
 
 returns : tie.Need-returns
-returns c = gather-refused _ _ _ _ _ (c .before .before .gather-refusal .ensures) (c .if1 .taken)
+returns c = gather-refused _ _ _ _ _ _ (c .before .before .gather-refusal .ensures) (c .if1 .taken)
 
 gather-checked-requires : tie.Need-gather-checked-requires
-gather-checked-requires c κs = gather-shows _ _ _ _ (number-of (sym (c .before .before .before .gather-refusal .ensures)) ∙ c .before .if1 .left)
+gather-checked-requires c κs = gather-shows _ _ _ _ _ (number-of (sym (c .before .before .before .gather-refusal .ensures)) ∙ c .before .if1 .left)
 
 returns-2 : tie.Need-returns-2
 returns-2 c =
     let refusal = c .before .before .before .before .before .before .gather-refusal in
-    gather-done _ _ _ _ _ (refusal .ensures) (c .before .before .before .before .if1 .left) _ _ (c .before .before .gather-checked .ensures)
+    gather-done _ _ _ _ _ _ (refusal .ensures) (c .before .before .before .before .if1 .left) _ _ (c .before .before .gather-checked .ensures)
 
 pub gather-spec : {M : Type 1} → statement M
 gather-spec =

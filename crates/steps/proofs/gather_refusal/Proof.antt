@@ -14,12 +14,12 @@ use Rattle.steps.proofs.gather_refusal.Statement.{statement}
 use Rattle.steps.proofs.gather_refusal.Tie as tie
 
 abbrev start : tie.Else1 → tie.Start
-start c = c .before .before .before .before .before .before
+start c = c .before .before .before .before .before .before .before
 
 -- what checks 1 to 8 have shown
 shown : (c : tie.Else1)
     → let a = start c .args in Checked (a .image .now) (a .table .now) (a .area .now) × (a .number < countOf (a .image .now))
-shown c = step-shows _ _ _ _ (number-of (sym (c .before .before .step-refusal .ensures)) ∙ c .if1 .left)
+shown c = step-shows _ _ _ _ _ (number-of (sym (c .before .before .step-refusal .ensures)) ∙ c .if1 .left)
 
 returns : tie.Need-returns
 unfolding gatherRefusal

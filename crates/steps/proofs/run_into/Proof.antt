@@ -13,20 +13,22 @@ use Rattle.steps.proofs.run_into.Statement.{statement}
 use Rattle.steps.proofs.run_into.Tie as tie
 
 part-of-requires : tie.Need-part-of-requires
-part-of-requires c κs = let s = c .before .before .before in (lies _ (accepted _ (s .pre .0 .accepted) .offsets) _ (s .pre .1), omega (arith, s .pre .0 .programs, s .pre .1))
+part-of-requires c κs = let s = c .before .before .before .before in (lies _ (accepted _ (s .pre .0 .accepted) .offsets) _ (s .pre .1), omega (arith, s .pre .0 .programs, s .pre .1))
 
 run-program-requires : tie.Need-run-program-requires
 run-program-requires c κs =
-    let s = c .before .before .before .before .before .before in (
-      subst (λ (p : List ℕ). Runnable p) (sym (c .before .before .part-of .ensures .bytes-are))
-          (part-runnable _ (s .pre .0 .accepted) _ (s .pre .1)),
-      s .pre .0 .cells-few,
-      simp (length-take, length-drop) (omega (arith, s .pre .0 .sized, s .pre .1, c .before .slot-start .ensures)),
-    )
+    let s = c .before .before .before .before .before .before .before in
+    record {
+      runnable =
+          subst (λ (p : List ℕ). Runnable p) (sym (c .before .before .part-of .ensures .bytes-are))
+          (part-runnable _ (s .pre .0 .accepted) _ (s .pre .1));
+      pairs = s .pre .2;
+      sized = simp (length-take, length-drop) (omega (arith, s .pre .0 .sized, s .pre .1, c .before .slot-start .ensures));
+    }
 
 returns : tie.Need-returns
 returns c =
-    runs-into _ _ _ _ _ _ _ _ (c .before .before .before .before .slot-start .ensures)
+    runs-into _ _ _ _ _ _ _ _ _ (c .before .before .before .before .slot-start .ensures)
     (c .before .before .before .before .before .part-of .ensures .bytes-are) (c .before .before .run-program .ensures)
 
 pub run-into-spec : {M : Type 1} → statement M
