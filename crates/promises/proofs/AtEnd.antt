@@ -21,7 +21,7 @@ use Rattle.machine.specs.Runs.{keeps, stateOfRun}
 use Rattle.area.specs.declared.MarkKind.{MarkKind}
 use Rattle.area.specs.Layout.{areaWords, stateAt, stateOf, detailOf, inGroup, readsOf, storesOf}
 use Rattle.area.specs.Marks.{listFor, depends}
-use Rattle.area.specs.Checks.{Checked, Slotted}
+use Rattle.area.specs.Checks.{Checked, Slotted, Paired}
 use Rattle.area.proofs.Checks.{program-slotted}
 use Rattle.steps.specs.Settling.{verdict}
 use Rattle.causes.specs.Causes.{causeOf}
@@ -35,7 +35,7 @@ use Rattle.promises.specs.Causes.{TrueCause}
 use Rattle.promises.proofs.Deciding.{commits-keeps, settled-keeps, decisionOn}
 use Rattle.promises.proofs.Installing.{installed-length, table-length}
 use Rattle.promises.proofs.SettleStep.{depends-on}
-use Rattle.promises.proofs.Stepping.{Opens, opens, runs-fit, checked-on, verdict-on}
+use Rattle.promises.proofs.Stepping.{Opens, opens, runs-fit, checked-on, paired-on, verdict-on}
 use Rattle.promises.proofs.Causing.{cause-true}
 use Rattle.promises.proofs.Histories.{paper-end, paper-table, paper-state, paper-detail, paper-reads, paper-stores}
 use Rattle.promises.proofs.PaperOrder.{paperOrder, order-members, order-distinct, order-length}
@@ -119,56 +119,58 @@ state-past T n k a e l = List·getD-eq-default a 0 {n = stateAt T k} (omega arit
 
 -- all that is asked of the end here: the table is the paper's, the checks pass, each slot tells its program's state, detail, reads and stores, the marks
 -- decide as the paper does, and the cells that they show are those of the runs
-pub record PaperEnd (image t : List ℕ) (w : World) : Type 0 where
-  pub table-is : w .table ≡ tableAfter (batchOf image t) t
+pub record PaperEnd (image t g : List ℕ) (w : World) : Type 0 where
+  pub table-is : w .table ≡ tableAfter (batchOf image t g) t
   pub checks : Checked image (w .table) (w .area)
-  pub state-is : (k : ℕ) → k < countOf image → stateOf (length t) k (w .area) ≡ stateAfter (batchOf image t) k
-  pub detail-is : (k : ℕ) → k < countOf image → detailOf (length t) k (w .area) ≡ detailAfter (batchOf image t) k
-  pub reads-are : (k : ℕ) → k < countOf image → readsOf (length t) k (w .area) ≡ readSet (batchOf image t) k
-  pub stores-are : (k : ℕ) → k < countOf image → storesOf (length t) k (w .area) ≡ writeSet (batchOf image t) k
-  pub decides : (k : ℕ) → k < countOf image → getsSettled (batchOf image t) k ≡ true → verdict image (length t) k (w .area) ≡ decisionOn (batchOf image t) k
-  pub depends-is : (k : ℕ) → k < countOf image → (l : ListKind) (m : MarkKind) → depends l m (length t) k (w .area) ≡ touches l (listFor m) (batchOf image t) k
+  pub pairs : Paired (w .table) g
+  pub state-is : (k : ℕ) → k < countOf image → stateOf (length t) k (w .area) ≡ stateAfter (batchOf image t g) k
+  pub detail-is : (k : ℕ) → k < countOf image → detailOf (length t) k (w .area) ≡ detailAfter (batchOf image t g) k
+  pub reads-are : (k : ℕ) → k < countOf image → readsOf (length t) k (w .area) ≡ readSet (batchOf image t g) k
+  pub stores-are : (k : ℕ) → k < countOf image → storesOf (length t) k (w .area) ≡ writeSet (batchOf image t g) k
+  pub decides : (k : ℕ) → k < countOf image → getsSettled (batchOf image t g) k ≡ true → verdict image (length t) k (w .area) ≡ decisionOn (batchOf image t g) k
+  pub depends-is : (k : ℕ) → k < countOf image → (l : ListKind) (m : MarkKind) → depends l m (length t) k (w .area) ≡ touches l (listFor m) (batchOf image t g) k
   pub causes : (k : ℕ) → k < countOf image → (l : ListKind) (m : MarkKind) → depends l m (length t) k (w .area) ≡ true
-      → TrueCause l (listFor m) (batchOf image t) k (causeOf l m (length t) k (w .area))
+      → TrueCause l (listFor m) (batchOf image t g) k (causeOf l m (length t) k (w .area))
 
-paper-shows : (image t : List ℕ) → Opens image t → PaperEnd image t (paperWorld image t)
-paper-shows image t opens =
+paper-shows : (image t g : List ℕ) → Opens image t g → PaperEnd image t g (paperWorld image t g)
+paper-shows image t g opens =
     record {
-      table-is = paper-table image t;
-      checks = checked-on image t opens all all;
-      state-is = paper-state image t (opens .accepted);
-      detail-is = paper-detail image t (opens .accepted);
-      reads-are = paper-reads image t (opens .accepted);
-      stores-are = paper-stores image t (opens .accepted);
-      decides = λ k l ran. verdict-on image t opens all all k l (λ j _. refl) ran;
-      depends-is = λ k l. depends-on (batchOf image t) all all (length t) k (runs-fit image t (opens .accepted)) l (λ j _. refl);
+      table-is = paper-table image t g;
+      checks = checked-on image t g opens all all;
+      pairs = paired-on image t g opens all all;
+      state-is = paper-state image t g (opens .accepted);
+      detail-is = paper-detail image t g (opens .accepted);
+      reads-are = paper-reads image t g (opens .accepted);
+      stores-are = paper-stores image t g (opens .accepted);
+      decides = λ k l ran. verdict-on image t g opens all all k l (λ j _. refl) ran;
+      depends-is = λ k l. depends-on (batchOf image t g) all all (length t) k (runs-fit image t g (opens .accepted)) l (λ j _. refl);
       causes = λ k l q m d.
-          let slotted : Slotted (length t) k (paperWorld image t .area) =
-          rw (table-length (batchOf image t) t all) at (program-slotted image _ _ (checked-on image t opens all all) k l) in
-          cause-true (batchOf image t) (length t) k (runs-fit image t (opens .accepted)) l q m (found (length t) k _ slotted q m d);
+          let slotted : Slotted (length t) k (paperWorld image t g .area) =
+          rw (table-length (batchOf image t g) t all) at (program-slotted image _ _ (checked-on image t g opens all all) k l) in
+          cause-true (batchOf image t g) (length t) k (runs-fit image t g (opens .accepted)) l q m (found (length t) k _ slotted q m d);
     }
 
-pub paper-ends : {image t : List ℕ} {w : World} → RunToEnd image t w → PaperEnd image t w
-paper-ends {image} {t} {w} run = rw (paper-end image t w run) (paper-shows image t (opens image t (run .found) (run .opens)))
+pub paper-ends : {image t g : List ℕ} {w : World} → RunToEnd image t g w → PaperEnd image t g w
+paper-ends {image} {t} {g} {w} run = rw (paper-end image t g w run) (paper-shows image t g (opens image t g (run .found) (run .opens)))
 
-module _ {image t : List ℕ} {w : World} (end : PaperEnd image t w) where
+module _ {image t g : List ℕ} {w : World} (end : PaperEnd image t g w) where
   pub end-sized : length (w .table) ≡ length t
   unfolding tableAfter
-  end-sized = ap length (end .table-is) ∙ installed-length (batchOf image t) t (commits (batchOf image t)) (countOf image)
+  end-sized = ap length (end .table-is) ∙ installed-length (batchOf image t g) t (commits (batchOf image t g)) (countOf image)
 
-  pub end-committed : (k : ℕ) → k < countOf image → inGroup Committed (length t) (w .area) k ≡ commits (batchOf image t) k
+  pub end-committed : (k : ℕ) → k < countOf image → inGroup Committed (length t) (w .area) k ≡ commits (batchOf image t g) k
   unfolding inGroup isIn
-  end-committed k l = rw (end .state-is k l) (committed-is (batchOf image t) k)
+  end-committed k l = rw (end .state-is k l) (committed-is (batchOf image t g) k)
 
-  pub end-carried : (k : ℕ) → k < countOf image → inGroup Carried (length t) (w .area) k ≡ isCarried (stateAfter (batchOf image t) k)
+  pub end-carried : (k : ℕ) → k < countOf image → inGroup Carried (length t) (w .area) k ≡ isCarried (stateAfter (batchOf image t g) k)
   unfolding inGroup isIn
   end-carried k l = ap isCarried (end .state-is k l)
 
-  pub end-count : committedCount (length t) (countOf image) (w .area) ≡ count (commits (batchOf image t)) (countOf image)
+  pub end-count : committedCount (length t) (countOf image) (w .area) ≡ count (commits (batchOf image t g)) (countOf image)
   unfolding committedCount
   end-count = count-ext _ _ (countOf image) end-committed
 
-  pub end-order : orderOf (length t) (countOf image) (w .area) ≡ paperOrder (batchOf image t)
+  pub end-order : orderOf (length t) (countOf image) (w .area) ≡ paperOrder (batchOf image t g)
   unfolding orderOf paperOrder
   end-order =
       listed-ext (countOf image) _ _ _ _ (countOf image) _ _
@@ -177,20 +179,20 @@ module _ {image t : List ℕ} {w : World} (end : PaperEnd image t w) where
   -- the taking gets through
   pub end-exists : orderExists (length t) (countOf image) (w .area) ≡ true
   unfolding orderExists
-  end-exists = eq-eqb _ _ (ap length end-order ∙ order-length (batchOf image t) ∙ sym end-count)
+  end-exists = eq-eqb _ _ (ap length end-order ∙ order-length (batchOf image t g) ∙ sym end-count)
 
   pub end-distinct : distinct (orderOf (length t) (countOf image) (w .area)) ≡ true
-  end-distinct = ap distinct end-order ∙ order-distinct (batchOf image t)
+  end-distinct = ap distinct end-order ∙ order-distinct (batchOf image t g)
 
   pub end-members : (k : ℕ) → has k (orderOf (length t) (countOf image) (w .area)) ≡ ltb k (countOf image) && inGroup Committed (length t) (w .area) k
   end-members k =
-      rw end-order (order-members (batchOf image t) k)
+      rw end-order (order-members (batchOf image t g) k)
       ∙ and-same (ltb k (countOf image)) (λ e. sym (end-committed k (ltb-true k (countOf image) e)))
 
   -- a program that is not carried is done with
   pub end-done : (k : ℕ) → k < countOf image → isDone (stateOf (length t) k (w .area)) ≡ not (inGroup Carried (length t) (w .area) k)
   unfolding inGroup isIn
-  end-done k l = rw (end .state-is k l) (done-is (batchOf image t) k)
+  end-done k l = rw (end .state-is k l) (done-is (batchOf image t g) k)
 
   -- program 0 is not carried; where there is none, the area ends before its slot
   pub end-zero : inGroup Carried (length t) (w .area) 0 ≡ false
@@ -198,5 +200,5 @@ module _ {image t : List ℕ} {w : World} (end : PaperEnd image t w) where
   end-zero = go (known (ltb 0 (countOf image)))
     where
       go : (ltb 0 (countOf image) ≡ true) ⊎ (ltb 0 (countOf image) ≡ false) → isCarried (stateOf (length t) 0 (w .area)) ≡ false
-      go (inl e) = rw (end .state-is 0 (ltb-true _ _ e)) (zero-ends (batchOf image t))
+      go (inl e) = rw (end .state-is 0 (ltb-true _ _ e)) (zero-ends (batchOf image t g))
       go (inr e) = ap isCarried (state-past (length t) (countOf image) 0 (w .area) (rw end-sized at (end .checks .sized)) (ltb-false _ _ e)) ∙ waiting-uncarried

@@ -33,7 +33,7 @@ one-more P i h k j l = go (below j i l)
     go (inl q) = rw q k
     go (inr q) = h j q
 
-module _ {last : ℕ} {images tables : ℕ → List ℕ} {worlds : ℕ → World} (batches : Batches last images tables worlds) where
+module _ {last : ℕ} {images tables guards : ℕ → List ℕ} {worlds : ℕ → World} (batches : Batches last images tables guards worlds) where
   zero-stays : (i : ℕ) → i ≤ last → carriedIn worlds i 0 ≡ false
   zero-stays i h = let end = paper-ends (batches .ends i h) in rw (end-sized end) (end-zero end)
 
@@ -52,16 +52,16 @@ module _ {last : ℕ} {images tables : ℕ → List ℕ} {worlds : ℕ → World
     next-stands : i < last → count (carriedIn worlds i) q < countOf (images (suc i))
     unfolding carriedCount
     next-stands h =
-        rw (batches .follows i h, next-count (images i) (worlds i .table) (worlds i .area) (batches .fresh i) (batches .out i) (batches .accepted i h))
+        rw (batches .follows i h, next-count (images i) (worlds i .table) (guards i) (worlds i .area) (batches .fresh i) (batches .out i) (batches .accepted i h))
         (let m = count-below (carriedIn worlds i) (countOf (images i)) q l e in omega arith)
 
     next-same : i < last → partOf (images (suc i)) (count (carriedIn worlds i) q) ≡ partOf (images i) q
     next-same h =
-        rw (batches .follows i h) (next-carried-at (images i) (worlds i .table) (worlds i .area) (batches .fresh i) (batches .out i) (batches .accepted i h) q l e)
+        rw (batches .follows i h) (next-carried-at (images i) (worlds i .table) (guards i) (worlds i .area) (batches .fresh i) (batches .out i) (batches .accepted i h) q l e)
 
 -- ---- the program that stood in place p of batch 0, with p + 1 batches
 
-module _ {p : ℕ} {images tables : ℕ → List ℕ} {worlds : ℕ → World} (batches : Batches p images tables worlds) where
+module _ {p : ℕ} {images tables guards : ℕ → List ℕ} {worlds : ℕ → World} (batches : Batches p images tables guards worlds) where
   -- it has come to batch i, carried all the way; each batch has brought it a place nearer to 0
   record Comes (i : ℕ) : Type 0 where
     pub nearer : placeOf worlds p i + i ≤ p

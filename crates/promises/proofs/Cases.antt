@@ -8,6 +8,7 @@ use lib.ListN.{length, replicate}
 use Rattle.image.specs.Image.{countOf}
 use Rattle.image.specs.Assembler.{image}
 use Rattle.image.specs.Bench.{x}
+use Rattle.guard.specs.Guards.{fullFor}
 use Rattle.carry.specs.Opened as carry
 use Rattle.carry.specs.Next.{nextRefusal, nextImage}
 use Rattle.promises.specs.Laid.{World}
@@ -25,7 +26,7 @@ record Pass : Type 0 where
   pub table : List ℕ
 
 abbrev worldOf : Pass → World
-worldOf p = runWhole (p .batch) (p .table)
+worldOf p = runWhole (p .batch) (p .table) (fullFor (p .table))
 
 abbrev following : Pass → Pass
 following p =
@@ -41,6 +42,9 @@ images i = pass i .batch
 
 abbrev tables : ℕ → List ℕ
 tables i = pass i .table
+
+abbrev guards : ℕ → List ℕ
+guards i = fullFor (tables i)
 
 abbrev worlds : ℕ → World
 worlds i = worldOf (pass i)
@@ -64,7 +68,7 @@ no-more-than-promised : {images : ℕ → List ℕ} {worlds : ℕ → World} {p 
 no-more-than-promised e = omega (arith, e .soon)
 
 -- what the theorem on many batches asks for can be met
-run-to-end : (i : ℕ) → i ≤ 2 → RunToEnd (images i) (tables i) (worlds i)
+run-to-end : (i : ℕ) → i ≤ 2 → RunToEnd (images i) (tables i) (guards i) (worlds i)
 unfolding opened carry.opened eachOf pass
 run-to-end zero h = record { found = used (images 0) (tables 0); history = inNumberOrder (images 0); opens = refl; plays = refl; over = refl }
 run-to-end (suc zero) h = record { found = used (images 1) (tables 1); history = inNumberOrder (images 1); opens = refl; plays = refl; over = refl }
@@ -76,13 +80,13 @@ run-to-end (suc (suc (suc i))) h = absurd (omega arith)
 abbrev room : List ℕ
 room = replicate 100 0
 
-accepted : (i : ℕ) → i < 2 → nextRefusal (images i) (worlds i .table) (worlds i .area) nothingFresh room .number ≡ 0
+accepted : (i : ℕ) → i < 2 → nextRefusal (images i) (worlds i .table) (guards i) (worlds i .area) nothingFresh room .number ≡ 0
 unfolding opened carry.opened eachOf pass
 accepted zero h = refl
 accepted (suc zero) h = refl
 accepted (suc (suc i)) h = absurd (omega arith)
 
-batches-are-met : Batches 2 images tables worlds
+batches-are-met : Batches 2 images tables guards worlds
 unfolding pass
 batches-are-met =
     record { fresh = λ i. nothingFresh; out = λ i. room; ends = run-to-end; accepted = accepted; follows = λ i h. refl }

@@ -7,6 +7,7 @@ use Rattle.base.specs.Words.{has}
 use Rattle.image.specs.Refusals as refusal
 use Rattle.image.specs.Assembler.{image}
 use Rattle.image.specs.Bench.{x, y, example-1, example-2, example-3}
+use Rattle.guard.specs.Guards.{fullFor}
 use Rattle.causes.specs.declared.answers.Cause.{Cause}
 use Rattle.causes.specs.declared.answers.Why.{Why}
 use Rattle.causes.specs.declared.answers.Why.the-variants.{Refused, Waw, Raw, RawWithWar}
@@ -27,10 +28,10 @@ notCarried = Refused refusal.notCarried
 
 -- what the call says of each of three programs, at the end of their batch on a table
 abbrev whys : (batch table : List ℕ) → List Why
-whys batch table = let w = runWhole batch table in map (whyAnswer batch (w .table) (w .area)) (0 ∷ 1 ∷ 2 ∷ [])
+whys batch table = let w = runWhole batch table (fullFor table) in map (whyAnswer batch (w .table) (fullFor table) (w .area)) (0 ∷ 1 ∷ 2 ∷ [])
 
 abbrev befores : (batch table : List ℕ) → List Before
-befores batch table = let w = runWhole batch table in map (beforeAnswer batch (w .table) (w .area)) (0 ∷ 1 ∷ 2 ∷ [])
+befores batch table = let w = runWhole batch table (fullFor table) in map (beforeAnswer batch (w .table) (fullFor table) (w .area)) (0 ∷ 1 ∷ 2 ∷ [])
 
 -- ---- the bench sheet's carried programs
 
@@ -57,7 +58,7 @@ unfolding opened causes.opened eachOf
 case-9-whys = refl
 
 -- "13 this program is not carried", exactly where the paper does not carry it
-carried-in-example-1 : map (isCarriedIn (batchOf (example-1 1) (9 ∷ 4 ∷ []))) (0 ∷ 1 ∷ 2 ∷ []) ∷ map (isCarriedIn (batchOf (example-1 2) (9 ∷ 4 ∷ []))) (0 ∷ 1 ∷ 2 ∷ []) ∷ []
+carried-in-example-1 : map (isCarriedIn (batchOf (example-1 1) (9 ∷ 4 ∷ []) (fullFor (9 ∷ 4 ∷ [])))) (0 ∷ 1 ∷ 2 ∷ []) ∷ map (isCarriedIn (batchOf (example-1 2) (9 ∷ 4 ∷ []) (fullFor (9 ∷ 4 ∷ [])))) (0 ∷ 1 ∷ 2 ∷ []) ∷ []
     ≡ (false ∷ true ∷ true ∷ []) ∷ (false ∷ false ∷ true ∷ []) ∷ []
 unfolding opened
 carried-in-example-1 = refl

@@ -41,18 +41,18 @@ behind-none reads stores k p m (x ∷ o) h = go (known (eqb x p)) (behind-none r
     go (inl e) ih = rw e (not-true (λ there. clash m (rw (eqb-true x p e) at (h .0 k there))))
     go (inr e) ih = rw e ih
 
-module _ (image t : List ℕ) (w : World) (run : RunToEnd image t w) (k : ℕ) (number : k < countOf image) where
+module _ (image t g : List ℕ) (w : World) (run : RunToEnd image t g w) (k : ℕ) (number : k < countOf image) where
   abbrev b : Batch
-  b = batchOf image t
+  b = batchOf image t g
 
-  end : PaperEnd image t w
+  end : PaperEnd image t g w
   end = paper-ends run
 
   -- The answer is true of the runs: the program has no RAW, or this is its cause.
-  pub before-true : TrueBefore b k (beforeAnswer image (w .table) (w .area) k)
+  pub before-true : TrueBefore b k (beforeAnswer image (w .table) g (w .area) k)
   unfolding beforeAnswer beforeOf
   before-true =
-      rw (unless-done (askRefusal image (w .table) (w .area) k) before.Refused (beforeOf (length (w .table)) k (w .area)) (number-of (sym (asks image t w run k number))), end-sized end)
+      rw (unless-done (askRefusal image (w .table) g (w .area) k) before.Refused (beforeOf (length (w .table)) k (w .area)) (number-of (sym (asks image t g w run k number))), end-sized end)
       (go (depends Reads Write (length t) k (w .area)) refl)
     where
       go : (d : Bool) → depends Reads Write (length t) k (w .area) ≡ d → TrueBefore b k (beforeOf (length t) k (w .area))

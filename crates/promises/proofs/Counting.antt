@@ -25,11 +25,11 @@ use Rattle.writer.proofs.Programs.{picked-count, length-image}
 use Rattle.carry.proofs.Nexts.{next-count}
 
 -- where the order is not refused, it has as many as are committed
-not-refused : (image t a list : List ℕ) → orderRefusal image t a list .number ≡ 0
+not-refused : (image t g a list : List ℕ) → orderRefusal image t g a list .number ≡ 0
     → length (orderOf (length t) (countOf image) a) ≡ committedCount (length t) (countOf image) a
 unfolding orderRefusal orderExists
-not-refused image t a list e =
-    eqb-true _ _ (none-fails (orderExists (length t) (countOf image) a) refusal.noOrder _ (λ z. omega arith) (none-after (listRefusal image t a list) _ e .1) .0)
+not-refused image t g a list e =
+    eqb-true _ _ (none-fails (orderExists (length t) (countOf image) a) refusal.noOrder _ (λ z. omega arith) (none-after (listRefusal image t g a list) _ e .1) .0)
 
 -- the numbers of an answer, refused or done
 numbers-unless : {A : Type 0} (f : A → Counted) (r : Refusal) (refused : Refusal → A) (done : A) (c : Counted) → f (refused r) ≡ noCount r
@@ -59,27 +59,27 @@ unfolding numberAt nextImage imageOf number
 count-in-front T image a fresh rest = refl
 
 -- the order returns "its count", and "a refusal returns its number, 0 for every other result"
-pub order-counts : (image t a list : List ℕ)
-    → numbersOfListed (orderAnswer image t a list) ≡ unless (orderRefusal image t a list) noCount (counted (committedCount (length t) (countOf image) a))
+pub order-counts : (image t g a list : List ℕ)
+    → numbersOfListed (orderAnswer image t g a list) ≡ unless (orderRefusal image t g a list) noCount (counted (committedCount (length t) (countOf image) a))
 unfolding orderAnswer
-order-counts image t a list =
-    numbers-unless numbersOfListed (orderRefusal image t a list) Refused (Count (length (orderOf (length t) (countOf image) a))) _ refl
-    (λ e. ap counted (not-refused image t a list e))
+order-counts image t g a list =
+    numbers-unless numbersOfListed (orderRefusal image t g a list) Refused (Count (length (orderOf (length t) (countOf image) a))) _ refl
+    (λ e. ap counted (not-refused image t g a list e))
 
 -- the next image returns "its length": the header and the offsets for the carried and the fresh programs, and these programs' bytes
-pub next-length : (image t a fresh out : List ℕ)
-    → numbersOfNext (nextAnswer image t a fresh out)
-    ≡ unless (nextRefusal image t a fresh out) noCount
+pub next-length : (image t g a fresh out : List ℕ)
+    → numbersOfNext (nextAnswer image t g a fresh out)
+    ≡ unless (nextRefusal image t g a fresh out) noCount
     (counted (headBytes (carriedCount (length t) (countOf image) a + countOf fresh) + length (joined (nextPrograms (length t) image a fresh))))
 unfolding nextAnswer
-next-length image t a fresh out =
-    numbers-unless numbersOfNext (nextRefusal image t a fresh out) carrying.Refused (carrying.Length (length (nextImage (length t) image a fresh))) _ refl
+next-length image t g a fresh out =
+    numbers-unless numbersOfNext (nextRefusal image t g a fresh out) carrying.Refused (carrying.Length (length (nextImage (length t) image a fresh))) _ refl
     (λ e. ap counted (next-bytes (length t) image a fresh))
 
 -- the next image has as many programs as are carried, and the fresh ones
-pub next-counts : (image t a fresh out : List ℕ) → nextRefusal image t a fresh out .number ≡ 0
-    → countOf (nextOut image t a fresh out) ≡ carriedCount (length t) (countOf image) a + countOf fresh
+pub next-counts : (image t g a fresh out : List ℕ) → nextRefusal image t g a fresh out .number ≡ 0
+    → countOf (nextOut image t g a fresh out) ≡ carriedCount (length t) (countOf image) a + countOf fresh
 unfolding nextOut
-next-counts image t a fresh out e =
-    rw (unless-done (nextRefusal image t a fresh out) (λ r. out) _ e)
-    (count-in-front (length t) image a fresh (drop (length (nextImage (length t) image a fresh)) out) ∙ next-count image t a fresh out e)
+next-counts image t g a fresh out e =
+    rw (unless-done (nextRefusal image t g a fresh out) (λ r. out) _ e)
+    (count-in-front (length t) image a fresh (drop (length (nextImage (length t) image a fresh)) out) ∙ next-count image t g a fresh out e)

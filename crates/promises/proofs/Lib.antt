@@ -29,3 +29,4 @@ pub mod NextBatch
 pub mod WhyCarried
 pub mod ComesBefore
 pub mod CauseCases
+pub mod Unguarded

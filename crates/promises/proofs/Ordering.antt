@@ -24,24 +24,24 @@ use Rattle.promises.proofs.AtEnd.{paper-ends, end-sized, end-committed,
 use Rattle.promises.proofs.PaperOrder.{order-rising}
 
 -- The list names each committed program once and nothing else.
-pub list-names : (image t : List ℕ) (w : World) → RunToEnd image t w
+pub list-names : (image t g : List ℕ) (w : World) → RunToEnd image t g w
     → (let l = orderOf (length t) (countOf image) (w .area) in
     (distinct l ≡ true) × ((k : ℕ) → has k l ≡ ltb k (countOf image) && inGroup Committed (length t) (w .area) k))
-list-names image t w run = (end-distinct (paper-ends run), end-members (paper-ends run))
+list-names image t g w run = (end-distinct (paper-ends run), end-members (paper-ends run))
 
 -- 12, "no order exists (never for an area that these calls made on this image)": any list with room for n entries gets the order.
-pub order-exists : (image t : List ℕ) (w : World) → RunToEnd image t w → (list : List ℕ) → countOf image ≤ length list
-    → orderRefusal image (w .table) (w .area) list .number ≡ 0
+pub order-exists : (image t g : List ℕ) (w : World) → RunToEnd image t g w → (list : List ℕ) → countOf image ≤ length list
+    → orderRefusal image (w .table) g (w .area) list .number ≡ 0
 unfolding orderRefusal listRefusal endedRefusal isOver
-order-exists image t w run list room =
+order-exists image t g w run list room =
     let end = paper-ends run in
-    let ended = first-passes refl (checked-is image (w .table) (w .area) (end .checks)) (goes-on _ (run .over) refl) in
+    let ended = first-passes refl (checked-is image (w .table) g (w .area) (end .checks) (end .pairs)) (goes-on _ (run .over) refl) in
     let listed = first-passes refl (number-of (sym ended)) (goes-on _ (le-leb _ _ room) refl) in
     number-of (sym (first-passes refl (number-of (sym listed)) (goes-on _ (rw (end-sized end) (end-exists end)) refl)))
 
 -- "Under Rule 1, for an area that these calls made on this image, this is rising number order, which is proved."
-pub order-rises : (image t : List ℕ) (w : World) → RunToEnd image t w → secondRule image ≡ false
+pub order-rises : (image t g : List ℕ) (w : World) → RunToEnd image t g w → secondRule image ≡ false
     → orderOf (length t) (countOf image) (w .area) ≡ rising (inGroup Committed (length t) (w .area)) (countOf image)
-order-rises image t w run rule1 =
+order-rises image t g w run rule1 =
     let end = paper-ends run in
-    end-order end ∙ order-rising (batchOf image t) rule1 ∙ rising-ext _ _ (countOf image) (λ k l. sym (end-committed end k l))
+    end-order end ∙ order-rising (batchOf image t g) rule1 ∙ rising-ext _ _ (countOf image) (λ k l. sym (end-committed end k l))

@@ -35,17 +35,20 @@ module _ (source : Refusal → Type 0) where
   found : {r : Refusal} → source r → WellPlaced r → Placed source r
   found s w = record { there = λ e. s; nowhere = w .nowhere }
 
-  -- checks 1 to 6, 7, 9 after the image's own
-  module _ (image t a : List ℕ) (own : Placed source (refusalOf image)) where
-    opened : Placed source (openRefusal image t a)
+  -- checks 5, 14, 6, 7, 9 after the image's own
+  module _ (image t g a : List ℕ) (own : Placed source (refusalOf image)) where
+    opened : Placed source (openRefusal image t g a)
     unfolding openRefusal roomRefusal saysWhere
-    opened = check-either (Placed source) _ own (check-either (Placed source) _ (plain 5 refl) (check-either (Placed source) _ (plain 6 refl) (plain 0 refl)))
+    opened =
+        check-either (Placed source) _ own
+        (check-either (Placed source) _ (plain 5 refl)
+        (check-either (Placed source) _ (plain 14 refl) (check-either (Placed source) _ (plain 6 refl) (plain 0 refl))))
 
-    called : Placed source (callRefusal image t a)
+    called : Placed source (callRefusal image t g a)
     unfolding callRefusal saysWhere
     called = checked _ 7 refl opened
 
-    ended : Placed source (endedRefusal image t a)
+    ended : Placed source (endedRefusal image t g a)
     unfolding endedRefusal saysWhere
     ended = checked _ 9 refl called
 
@@ -57,40 +60,40 @@ module _ (image : List ℕ) where
   unfolding programRefusalOf saysWhere
   program-placed k = checked (InImage image) _ 8 refl own
 
-  module _ (t a : List ℕ) where
-    pub open-placed : Placed (InImage image) (openRefusal image t a)
-    open-placed = opened (InImage image) image t a own
+  module _ (t g a : List ℕ) where
+    pub open-placed : Placed (InImage image) (openRefusal image t g a)
+    open-placed = opened (InImage image) image t g a own
 
-    step-placed : (k : ℕ) → Placed (InImage image) (stepRefusal image t a k)
+    step-placed : (k : ℕ) → Placed (InImage image) (stepRefusal image t g a k)
     unfolding stepRefusal saysWhere
-    step-placed k = checked (InImage image) _ 8 refl (called (InImage image) image t a own)
+    step-placed k = checked (InImage image) _ 8 refl (called (InImage image) image t g a own)
 
-    pub gather-placed : (k : ℕ) → Placed (InImage image) (gatherRefusal image t a k)
+    pub gather-placed : (k : ℕ) → Placed (InImage image) (gatherRefusal image t g a k)
     unfolding gatherRefusal saysWhere
     gather-placed k = checked (InImage image) _ 9 refl (step-placed k)
 
-    pub settle-placed : (k : ℕ) → Placed (InImage image) (settleRefusal image t a k)
+    pub settle-placed : (k : ℕ) → Placed (InImage image) (settleRefusal image t g a k)
     unfolding settleRefusal saysWhere
     settle-placed k = checked (InImage image) _ 9 refl (step-placed k)
 
-    pub ask-placed : (k : ℕ) → Placed (InImage image) (askRefusal image t a k)
+    pub ask-placed : (k : ℕ) → Placed (InImage image) (askRefusal image t g a k)
     unfolding askRefusal saysWhere
     ask-placed k = checked (InImage image) _ 9 refl (step-placed k)
 
-    pub why-placed : (k : ℕ) → Placed (InImage image) (whyRefusal image t a k)
+    pub why-placed : (k : ℕ) → Placed (InImage image) (whyRefusal image t g a k)
     unfolding carriedRefusal whyRefusal saysWhere
     why-placed k = checked (InImage image) _ 15 refl (checked (InImage image) _ 13 refl (ask-placed k))
 
-    pub order-placed : (list : List ℕ) → Placed (InImage image) (orderRefusal image t a list)
+    pub order-placed : (list : List ℕ) → Placed (InImage image) (orderRefusal image t g a list)
     unfolding listRefusal orderRefusal saysWhere
-    order-placed list = checked (InImage image) _ 12 refl (checked (InImage image) _ 10 refl (ended (InImage image) image t a own))
+    order-placed list = checked (InImage image) _ 12 refl (checked (InImage image) _ 10 refl (ended (InImage image) image t g a own))
 
-    pub next-placed : (fresh out : List ℕ) → Placed (InEither image fresh) (nextRefusal image t a fresh out)
+    pub next-placed : (fresh out : List ℕ) → Placed (InEither image fresh) (nextRefusal image t g a fresh out)
     unfolding lentRefusal sizeRefusal nextRefusal saysWhere
     next-placed fresh out =
         let source = InEither image fresh in
         check-either (Placed source) _
         (check-either (Placed source) _
-        (ended source image t a (found source (inl refl) (refusal-well image)))
+        (ended source image t g a (found source (inl refl) (refusal-well image)))
         (found source (inr refl) (fresh-well fresh)))
         (check-either (Placed source) _ (plain source 11 refl) (check-either (Placed source) _ (plain source 10 refl) (plain source 0 refl)))

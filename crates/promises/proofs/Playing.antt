@@ -48,33 +48,33 @@ module _ (b : Batch) where
       (ap (λ (x : List ℕ). replicate T 0 ++ x) (replicate-append-replicate T (slotWords * b .programs) 0)
       ∙ replicate-append-replicate T (T + slotWords * b .programs) 0)
 
-pub opened-on : (image t found : List ℕ) → openRefusal image t found .number ≡ 0 → opening image t found ≡ worldOn image t nobody nobody
+pub opened-on : (image t g found : List ℕ) → openRefusal image t g found .number ≡ 0 → opening image t g found ≡ worldOn image t g nobody nobody
 unfolding opening openArea
-opened-on image t found e =
+opened-on image t g found e =
     rw (
-      unless-done (openRefusal image t found) (λ r. found) (cleared found) e,
-      open-shows image t found e .sized,
-      area-none (batchOf image t) (length t),
-      table-opening (batchOf image t) t nobody (λ _ _. refl),
+      unless-done (openRefusal image t g found) (λ r. found) (cleared found) e,
+      open-shows image t g found e .sized,
+      area-none (batchOf image t g) (length t),
+      table-opening (batchOf image t g) t nobody (λ _ _. refl),
     )
 
 -- ---- a history
 
 -- the world that belongs to the two sets
-abbrev pub worldAt : (image t : List ℕ) → Progress → World
-worldAt image t p = worldOn image t (p .gathered) (p .settled)
+abbrev pub worldAt : (image t g : List ℕ) → Progress → World
+worldAt image t g p = worldOn image t g (p .gathered) (p .settled)
 
-module _ (image t : List ℕ) (o : Opens image t) where
+module _ (image t g : List ℕ) (o : Opens image t g) where
   after-on : (s : Step) (p : Progress) → Phased (countOf image) (p .gathered) (p .settled)
-      → afterStep image s (worldAt image t p) ≡ worldAt image t (moved (countOf image) s p)
+      → afterStep image g s (worldAt image t g p) ≡ worldAt image t g (moved (countOf image) s p)
   unfolding afterStep
   after-on (gather k) p f =
-      ap (λ (x : List ℕ). record { table = tableOn (batchOf image t) (p .settled) t; area = x }) (gather-on image t o (p .gathered) (p .settled) k f)
+      ap (λ (x : List ℕ). record { table = tableOn (batchOf image t g) (p .settled) t; area = x }) (gather-on image t g o (p .gathered) (p .settled) k f)
   after-on (settle k) p f =
-      λ i. record { table = settle-table-on image t o (p .gathered) (p .settled) k i; area = settle-area-on image t o (p .gathered) (p .settled) k i }
+      λ i. record { table = settle-table-on image t g o (p .gathered) (p .settled) k i; area = settle-area-on image t g o (p .gathered) (p .settled) k i }
 
   played-on : (h : List Step) (p : Progress) → Phased (countOf image) (p .gathered) (p .settled)
-      → played image h (worldAt image t p) ≡ worldAt image t (movedBy (countOf image) h p)
+      → played image g h (worldAt image t g p) ≡ worldAt image t g (movedBy (countOf image) h p)
   unfolding played
   played-on [] p f = refl
   played-on (s ∷ h) p f = rw (after-on s p f) (played-on h (moved (countOf image) s p) (phased-by (countOf image) (s ∷ []) p f))
@@ -86,7 +86,7 @@ reached image h = movedBy (countOf image) h none-yet
 pub reached-phased : (image : List ℕ) (h : List Step) → Phased (countOf image) (reached image h .gathered) (reached image h .settled)
 reached-phased image h = phased-by (countOf image) h none-yet (none-phased (countOf image))
 
-pub world-reached : (image t found : List ℕ) → openRefusal image t found .number ≡ 0 → (h : List Step)
-    → worldAfter image t found h ≡ worldAt image t (reached image h)
-world-reached image t found e h =
-    rw (opened-on image t found e) (played-on image t (opens image t found e) h none-yet (none-phased (countOf image)))
+pub world-reached : (image t g found : List ℕ) → openRefusal image t g found .number ≡ 0 → (h : List Step)
+    → worldAfter image t g found h ≡ worldAt image t g (reached image h)
+world-reached image t g found e h =
+    rw (opened-on image t g found e) (played-on image t g (opens image t g found e) h none-yet (none-phased (countOf image)))

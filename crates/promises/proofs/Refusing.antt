@@ -21,44 +21,44 @@ pub program-refused : (image : List ℕ) (k : ℕ) → (programRefusalOf image k
 unfolding programOf startOf
 program-refused image k h = (unless-refused (programRefusalOf image k) _ _ h, unless-refused (programRefusalOf image k) _ _ h)
 
-pub open-refused : (image t a : List ℕ) → (openRefusal image t a .number ≡ 0 → ⊥) → openArea image t a ≡ a
+pub open-refused : (image t g a : List ℕ) → (openRefusal image t g a .number ≡ 0 → ⊥) → openArea image t g a ≡ a
 unfolding openArea
-open-refused image t a h = unless-refused (openRefusal image t a) _ _ h
+open-refused image t g a h = unless-refused (openRefusal image t g a) _ _ h
 
-pub gather-refused : (image t a : List ℕ) (k : ℕ) → (gatherRefusal image t a k .number ≡ 0 → ⊥)
-    → (numbersOfGathered (gatherAnswer image t a k) ≡ refusedBy (gatherRefusal image t a k)) × (gatherArea image t a k ≡ a)
+pub gather-refused : (image t g a : List ℕ) (k : ℕ) → (gatherRefusal image t g a k .number ≡ 0 → ⊥)
+    → (numbersOfGathered (gatherAnswer image t g a k) ≡ refusedBy (gatherRefusal image t g a k)) × (gatherArea image t g a k ≡ a)
 unfolding gatherAnswer gatherArea
-gather-refused image t a k h =
-    (ap numbersOfGathered (unless-refused (gatherRefusal image t a k) _ _ h), unless-refused (gatherRefusal image t a k) _ _ h)
+gather-refused image t g a k h =
+    (ap numbersOfGathered (unless-refused (gatherRefusal image t g a k) _ _ h), unless-refused (gatherRefusal image t g a k) _ _ h)
 
-pub settle-refused : (image t a : List ℕ) (k : ℕ) → (settleRefusal image t a k .number ≡ 0 → ⊥)
-    → (numbersOfSettled (settleAnswer image t a k) ≡ refusedBy (settleRefusal image t a k))
-    × (settleTable image t a k ≡ t) × (settleArea image t a k ≡ a)
+pub settle-refused : (image t g a : List ℕ) (k : ℕ) → (settleRefusal image t g a k .number ≡ 0 → ⊥)
+    → (numbersOfSettled (settleAnswer image t g a k) ≡ refusedBy (settleRefusal image t g a k))
+    × (settleTable image t g a k ≡ t) × (settleArea image t g a k ≡ a)
 unfolding settleAnswer settleTable settleArea
-settle-refused image t a k h = (
-  ap numbersOfSettled (unless-refused (settleRefusal image t a k) _ _ h),
-  unless-refused (settleRefusal image t a k) _ _ h,
-  unless-refused (settleRefusal image t a k) _ _ h,
+settle-refused image t g a k h = (
+  ap numbersOfSettled (unless-refused (settleRefusal image t g a k) _ _ h),
+  unless-refused (settleRefusal image t g a k) _ _ h,
+  unless-refused (settleRefusal image t g a k) _ _ h,
 )
 
-pub why-refused : (image t a : List ℕ) (k : ℕ) → (whyRefusal image t a k .number ≡ 0 → ⊥)
-    → numbersOfWhy (whyAnswer image t a k) ≡ noReason (whyRefusal image t a k)
+pub why-refused : (image t g a : List ℕ) (k : ℕ) → (whyRefusal image t g a k .number ≡ 0 → ⊥)
+    → numbersOfWhy (whyAnswer image t g a k) ≡ noReason (whyRefusal image t g a k)
 unfolding whyAnswer
-why-refused image t a k h = ap numbersOfWhy (unless-refused (whyRefusal image t a k) _ _ h)
+why-refused image t g a k h = ap numbersOfWhy (unless-refused (whyRefusal image t g a k) _ _ h)
 
-pub before-refused : (image t a : List ℕ) (k : ℕ) → (askRefusal image t a k .number ≡ 0 → ⊥)
-    → beforeAnswer image t a k ≡ before.Refused (askRefusal image t a k)
+pub before-refused : (image t g a : List ℕ) (k : ℕ) → (askRefusal image t g a k .number ≡ 0 → ⊥)
+    → beforeAnswer image t g a k ≡ before.Refused (askRefusal image t g a k)
 unfolding beforeAnswer
-before-refused image t a k h = unless-refused (askRefusal image t a k) _ _ h
+before-refused image t g a k h = unless-refused (askRefusal image t g a k) _ _ h
 
-pub order-refused : (image t a list : List ℕ) → (orderRefusal image t a list .number ≡ 0 → ⊥)
-    → (numbersOfListed (orderAnswer image t a list) ≡ noCount (orderRefusal image t a list)) × (orderList image t a list ≡ list)
+pub order-refused : (image t g a list : List ℕ) → (orderRefusal image t g a list .number ≡ 0 → ⊥)
+    → (numbersOfListed (orderAnswer image t g a list) ≡ noCount (orderRefusal image t g a list)) × (orderList image t g a list ≡ list)
 unfolding orderAnswer orderList
-order-refused image t a list h =
-    (ap numbersOfListed (unless-refused (orderRefusal image t a list) _ _ h), unless-refused (orderRefusal image t a list) _ _ h)
+order-refused image t g a list h =
+    (ap numbersOfListed (unless-refused (orderRefusal image t g a list) _ _ h), unless-refused (orderRefusal image t g a list) _ _ h)
 
-pub next-refused : (image t a fresh out : List ℕ) → (nextRefusal image t a fresh out .number ≡ 0 → ⊥)
-    → (numbersOfNext (nextAnswer image t a fresh out) ≡ noCount (nextRefusal image t a fresh out)) × (nextOut image t a fresh out ≡ out)
+pub next-refused : (image t g a fresh out : List ℕ) → (nextRefusal image t g a fresh out .number ≡ 0 → ⊥)
+    → (numbersOfNext (nextAnswer image t g a fresh out) ≡ noCount (nextRefusal image t g a fresh out)) × (nextOut image t g a fresh out ≡ out)
 unfolding nextAnswer nextOut
-next-refused image t a fresh out h =
-    (ap numbersOfNext (unless-refused (nextRefusal image t a fresh out) _ _ h), unless-refused (nextRefusal image t a fresh out) _ _ h)
+next-refused image t g a fresh out h =
+    (ap numbersOfNext (unless-refused (nextRefusal image t g a fresh out) _ _ h), unless-refused (nextRefusal image t g a fresh out) _ _ h)

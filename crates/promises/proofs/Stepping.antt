@@ -24,7 +24,8 @@ use Rattle.machine.proofs.Laws.{run-kept}
 use Rattle.area.specs.declared.MarkKind.the-variants.{Write, Read}
 use Rattle.area.specs.Layout.{stateOf}
 use Rattle.area.specs.Marks.{storeAll}
-use Rattle.area.specs.Checks.{callRefusal, openRefusal, statesFrom, Checked}
+use Rattle.guard.specs.Guards.{admits}
+use Rattle.area.specs.Checks.{callRefusal, openRefusal, statesFrom, Checked, Paired}
 use Rattle.area.proofs.Checks.{few, passed-good, checked-is, open-shows}
 use Rattle.steps.specs.declared.Settled.the-variants.{Committed, Carried}
 use Rattle.steps.specs.Gathering.{stepRefusal, waits, gatherRefusal, gatheredArea, gatherArea}
@@ -41,11 +42,11 @@ use Rattle.promises.proofs.SettleStep.{settled-more, own-list, own-valu
 
 -- ---- the calls, where checks 1 to 7 pass: the rest of the checks is one test
 
-module _ (image t a : List ℕ) (k : ℕ) (called : callRefusal image t a .number ≡ 0) where
+module _ (image t g a : List ℕ) (k : ℕ) (called : callRefusal image t g a .number ≡ 0) where
   step-is : {A : Type 0} (nine : Bool) (stay go : A)
-      → unless (after (stepRefusal image t a k) (check nine refusal.state refusal.none)) (λ r. stay) go ≡ cond (ltb k (countOf image) && nine) go stay
+      → unless (after (stepRefusal image t g a k) (check nine refusal.state refusal.none)) (λ r. stay) go ≡ cond (ltb k (countOf image) && nine) go stay
   unfolding stepRefusal check unless
-  step-is {A} nine stay go = rw (eq-eqb (callRefusal image t a .number) 0 called) (cases (ltb k (countOf image)) nine)
+  step-is {A} nine stay go = rw (eq-eqb (callRefusal image t g a .number) 0 called) (cases (ltb k (countOf image)) nine)
     where
       cases : (l n : Bool)
           → unless {A = A} (after (check l refusal.number refusal.none) (check n refusal.state refusal.none)) (λ r. stay) go ≡ cond (l && n) go stay
@@ -53,16 +54,16 @@ module _ (image t a : List ℕ) (k : ℕ) (called : callRefusal image t a .numbe
       cases true false = refl
       cases false n = refl
 
-  pub gather-is : gatherArea image t a k ≡ cond (ltb k (countOf image) && waits (length t) k a) (gatheredArea image t k a) a
+  pub gather-is : gatherArea image t g a k ≡ cond (ltb k (countOf image) && waits (length t) k a) (gatheredArea image t g k a) a
   unfolding gatherArea gatherRefusal
-  gather-is = step-is (waits (length t) k a) a (gatheredArea image t k a)
+  gather-is = step-is (waits (length t) k a) a (gatheredArea image t g k a)
 
-  pub settle-table-is : settleTable image t a k
+  pub settle-table-is : settleTable image t g a k
       ≡ cond (ltb k (countOf image) && isReady (length t) (countOf image) k a) (settledTable (verdict image (length t) k a) k a t) t
   unfolding settleTable settleRefusal
   settle-table-is = step-is (isReady (length t) (countOf image) k a) t (settledTable (verdict image (length t) k a) k a t)
 
-  pub settle-area-is : settleArea image t a k
+  pub settle-area-is : settleArea image t g a k
       ≡ cond (ltb k (countOf image) && isReady (length t) (countOf image) k a) (settledArea (verdict image (length t) k a) (length t) k a) a
   unfolding settleArea settleRefusal
   settle-area-is = step-is (isReady (length t) (countOf image) k a) a (settledArea (verdict image (length t) k a) (length t) k a)
@@ -70,21 +71,22 @@ module _ (image t a : List ℕ) (k : ℕ) (called : callRefusal image t a .numbe
 -- ---- a batch that opens
 
 -- every run's log fits its slot
-pub runs-fit : (image t : List ℕ) → refusalOf image .number ≡ 0 → Fitting (batchOf image t) (length t)
+pub runs-fit : (image t g : List ℕ) → refusalOf image .number ≡ 0 → Fitting (batchOf image t g) (length t)
 unfolding Fitting
-runs-fit image t e k l =
-    run-kept (partOf image k) t (part-short image (accepted image e .offsets) k l)
+runs-fit image t g e k l =
+    run-kept (admits g) (partOf image k) t (part-short image (accepted image e .offsets) k l)
 
--- what the checks 1 to 5 have shown
-pub record Opens (image t : List ℕ) : Type 0 where
+-- what the checks 1 to 5 and 14 have shown
+pub record Opens (image t g : List ℕ) : Type 0 where
   pub accepted : refusalOf image .number ≡ 0
   pub cells-some : 0 < length t
   pub cells-few : length t ≤ maxCells
+  pub pairs : Paired t g
 
-pub opens : (image t found : List ℕ) → openRefusal image t found .number ≡ 0 → Opens image t
-opens image t found e =
-    let r = open-shows image t found e in
-    record { accepted = r .accepted; cells-some = r .cells-some; cells-few = r .cells-few }
+pub opens : (image t g found : List ℕ) → openRefusal image t g found .number ≡ 0 → Opens image t g
+opens image t g found e =
+    let r = open-shows image t g found e in
+    record { accepted = r .accepted; cells-some = r .cells-some; cells-few = r .cells-few; pairs = r .pairs }
 
 -- who waits has not run
 waiting-is : (s : ℕ) → eqb s waiting ≡ not (hasRun s)
@@ -99,9 +101,9 @@ waiting-is s = go (zero-or s)
 unfoldable pub Phased : ℕ → (gathered settled : ℕ → Bool) → Type 0
 Phased n G S = (j k : ℕ) → j < n → k < n → G j ≡ false → S k ≡ false
 
-module _ (image t : List ℕ) (o : Opens image t) where
+module _ (image t g : List ℕ) (o : Opens image t g) where
   abbrev b : Batch
-  b = batchOf image t
+  b = batchOf image t g
 
   abbrev n : ℕ
   n = countOf image
@@ -110,7 +112,7 @@ module _ (image t : List ℕ) (o : Opens image t) where
   T = length t
 
   fitting : Fitting b T
-  fitting = runs-fit image t (o .accepted)
+  fitting = runs-fit image t g (o .accepted)
 
   module _ (G S : ℕ → Bool) where
     abbrev table : List ℕ
@@ -131,8 +133,11 @@ module _ (image t : List ℕ) (o : Opens image t) where
           good = rw same (passed-good T n _ (on-passes b G S T fitting));
         }
 
-    pub call-on : callRefusal image table area .number ≡ 0
-    call-on = checked-is image _ _ checked-on
+    pub paired-on : Paired table g
+    paired-on = rw (table-length b t S) (o .pairs)
+
+    pub call-on : callRefusal image table g area .number ≡ 0
+    call-on = checked-is image _ _ _ checked-on paired-on
 
     -- ---- check 9 on the way
 
@@ -151,15 +156,15 @@ module _ (image t : List ℕ) (o : Opens image t) where
 
     -- ---- gathering
 
-    pub gather-on : (k : ℕ) → Phased n G S → gatherArea image table area k ≡ areaOn b (also k G) S T
+    pub gather-on : (k : ℕ) → Phased n G S → gatherArea image table g area k ≡ areaOn b (also k G) S T
     unfolding Phased
-    gather-on k phased = gather-is image table area k call-on ∙ go (known (ltb k n)) (known (G k))
+    gather-on k phased = gather-is image table g area k call-on ∙ go (known (ltb k n)) (known (G k))
       where
         stays : ((j : ℕ) → j < n → G j ≡ also k G j) → area ≡ areaOn b (also k G) S T
         stays same = on-ext b G S (also k G) S T same (λ j _ _. refl)
 
         go : (ltb k n ≡ true) ⊎ (ltb k n ≡ false) → (G k ≡ true) ⊎ (G k ≡ false)
-            → cond (ltb k n && waits (length table) k area) (gatheredArea image table k area) area ≡ areaOn b (also k G) S T
+            → cond (ltb k n && waits (length table) k area) (gatheredArea image table g k area) area ≡ areaOn b (also k G) S T
         go (inr e) g = rw e (stays (λ j l. sym (also-other k G j (λ q. omega (arith, ltb-false k n e)))))
         go (inl e) (inl g) =
             let l : k < n = ltb-true k n e in
@@ -250,18 +255,18 @@ module _ (image t : List ℕ) (o : Opens image t) where
       area-settled =
           settled-more b G S T k fitting (s .number) (s .own) (s .unsettled) (decisionOn b k) (decision-state b k (s .ran)) (decision-detail b k (s .ran))
 
-    pub settle-table-on : (k : ℕ) → settleTable image table area k ≡ tableOn b (settledToo k) t
+    pub settle-table-on : (k : ℕ) → settleTable image table g area k ≡ tableOn b (settledToo k) t
     settle-table-on k =
-        settle-table-is image table area k call-on ∙ rw (table-length b t S) (go (known (asked k)))
+        settle-table-is image table g area k call-on ∙ rw (table-length b t S) (go (known (asked k)))
       where
         go : (asked k ≡ true) ⊎ (asked k ≡ false)
             → cond (asked k) (settledTable (verdict image T k area) k area table) table ≡ tableOn b (settledToo k) t
         go (inl e) = let s = settling k e in rw (e, settles-as k s, s .everybody) (table-settled k s)
         go (inr e) = rw e (table-ext b t S (settledToo k) (not-settling k e))
 
-    pub settle-area-on : (k : ℕ) → settleArea image table area k ≡ areaOn b G (settledToo k) T
+    pub settle-area-on : (k : ℕ) → settleArea image table g area k ≡ areaOn b G (settledToo k) T
     settle-area-on k =
-        settle-area-is image table area k call-on ∙ rw (table-length b t S) (go (known (asked k)))
+        settle-area-is image table g area k call-on ∙ rw (table-length b t S) (go (known (asked k)))
       where
         go : (asked k ≡ true) ⊎ (asked k ≡ false)
             → cond (asked k) (settledArea (verdict image T k area) T k area) area ≡ areaOn b G (settledToo k) T

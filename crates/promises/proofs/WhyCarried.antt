@@ -48,22 +48,22 @@ one-cause mine theirs b k v u p q =
     omega (arith, p .smallest (u .program) (q .earlier) (rw (sym same-cell) at (q .its-cell)), q .smallest (v .program) (p .earlier) (rw same-cell at (p .its-cell))) in
     λ i. record { cell = same-cell i; program = same-program i }
 
-module _ (image t : List ℕ) (w : World) (run : RunToEnd image t w) (k : ℕ) (number : k < countOf image) where
+module _ (image t g : List ℕ) (w : World) (run : RunToEnd image t g w) (k : ℕ) (number : k < countOf image) where
   abbrev b : Batch
-  b = batchOf image t
+  b = batchOf image t g
 
-  end : PaperEnd image t w
+  end : PaperEnd image t g w
   end = paper-ends run
 
   -- ---- the checks
 
-  pub asks : refusal.none ≡ askRefusal image (w .table) (w .area) k
+  pub asks : refusal.none ≡ askRefusal image (w .table) g (w .area) k
   unfolding isOver
-  asks = ask-passes image (w .table) (w .area) k (checked-is image (w .table) (w .area) (end .checks)) number (run .over)
+  asks = ask-passes image (w .table) g (w .area) k (checked-is image (w .table) g (w .area) (end .checks) (end .pairs)) number (run .over)
 
   group-is : inGroup group.Carried (length (w .table)) (w .area) k ≡ isCarriedIn b k
   unfolding isCarriedIn
-  group-is = rw (end-sized end) (carried-are image t w run k number)
+  group-is = rw (end-sized end) (carried-are image t g w run k number)
 
   -- a dependency of the paper's has its cause
   cause-of : (l : ListKind) (m : MarkKind) → touches l (listFor m) b k ≡ true → TrueCause l (listFor m) b k (causeOf l m (length t) k (w .area))
@@ -93,14 +93,14 @@ module _ (image t : List ℕ) (w : World) (run : RunToEnd image t w) (k : ℕ) (
     unfolding holdsReason isReason
     reason-holds = rw (end-sized end, decided-so) (eq-eqb _ _ told-so)
 
-    not-refused : refusal.none ≡ whyRefusal image (w .table) (w .area) k
+    not-refused : refusal.none ≡ whyRefusal image (w .table) g (w .area) k
     unfolding whyRefusal carriedRefusal
     not-refused = first-passes (first-passes asks refl (goes-on _ (group-is ∙ carried) refl)) refl (goes-on _ reason-holds refl)
 
-    answered : whyAnswer image (w .table) (w .area) k ≡ explained (reason b k) (length t) k (w .area)
+    answered : whyAnswer image (w .table) g (w .area) k ≡ explained (reason b k) (length t) k (w .area)
     unfolding whyAnswer explainedBy
     answered =
-        unless-done (whyRefusal image (w .table) (w .area) k) why.Refused _ (number-of (sym not-refused))
+        unless-done (whyRefusal image (w .table) g (w .area) k) why.Refused _ (number-of (sym not-refused))
         ∙ rw (end-sized end, decided-so)
 
     -- ---- the causes
@@ -112,18 +112,18 @@ module _ (image t : List ℕ) (w : World) (run : RunToEnd image t w) (k : ℕ) (
     causes-true RawWithWar e has = (e, cause-of Reads Write (has .0), cause-of Stores Read (has .1))
 
   -- Every carried program gets its cause, and 13 is for the others: 15 never happens.
-  pub why-refuses : whyRefusal image (w .table) (w .area) k ≡ cond (isCarriedIn b k) refusal.none refusal.notCarried
+  pub why-refuses : whyRefusal image (w .table) g (w .area) k ≡ cond (isCarriedIn b k) refusal.none refusal.notCarried
   unfolding whyRefusal carriedRefusal
   why-refuses = go (known (isCarriedIn b k))
     where
       go : (isCarriedIn b k ≡ true) ⊎ (isCarriedIn b k ≡ false)
-          → whyRefusal image (w .table) (w .area) k ≡ cond (isCarriedIn b k) refusal.none refusal.notCarried
+          → whyRefusal image (w .table) g (w .area) k ≡ cond (isCarriedIn b k) refusal.none refusal.notCarried
       go (inl e) = sym (not-refused e) ∙ rw e
       go (inr e) = sym (first-refuses _ (first-passes asks refl (fails _ (group-is ∙ e))) (λ z. omega arith)) ∙ rw e
 
   -- "say the reason with its cause .. prove it of the programs' own runs from the opening table": the answer's reason is the paper's, its cell is the
   -- lowest that this program's run and an earlier finished program's share so, and the program is the smallest of those for that cell.
-  pub why-true : isCarriedIn b k ≡ true → TrueOf b k (whyAnswer image (w .table) (w .area) k)
+  pub why-true : isCarriedIn b k ≡ true → TrueOf b k (whyAnswer image (w .table) g (w .area) k)
   why-true carried =
       rw (answered carried)
       (causes-true carried (reason b k) refl (reason-has b k (sym (settled-keeps b k) ∙ ran carried) (uncommitted carried)))

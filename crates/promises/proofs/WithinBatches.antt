@@ -14,11 +14,11 @@ use Rattle.promises.proofs.AtEnd.{paper-ends, end-zero}
 use Rattle.promises.proofs.Carrying.{ends-within}
 
 -- "Number 0 is never carried."
-pub zero-never-carried : (image t : List ℕ) (w : World) → RunToEnd image t w → inGroup Carried (length t) (w .area) 0 ≡ false
-zero-never-carried image t w run = end-zero (paper-ends run)
+pub zero-never-carried : (image t g : List ℕ) (w : World) → RunToEnd image t g w → inGroup Carried (length t) (w .area) 0 ≡ false
+zero-never-carried image t g w run = end-zero (paper-ends run)
 
 -- "So where each batch is run to its end and the next is made by this step, a program in place p (from 0) is committed, rejected or faulted within p+1
 -- batches."
-pub within-batches : (p : ℕ) (images tables : ℕ → List ℕ) (worlds : ℕ → World) → Batches p images tables worlds
+pub within-batches : (p : ℕ) (images tables guards : ℕ → List ℕ) (worlds : ℕ → World) → Batches p images tables guards worlds
     → p < countOf (images 0) → EndsWithin images worlds p
-within-batches p images tables worlds batches l = ends-within batches l
+within-batches p images tables guards worlds batches l = ends-within batches l

@@ -1,5 +1,5 @@
 -- A sequence of batches, from 0 to a last one: "each batch is run to its end and the next is made by this step", with any fresh images that are
--- accepted. The table may be changed between two batches. Assumes nothing.
+-- accepted. Table and guards may be changed between two batches. Assumes nothing.
 use Prim.Native.Nat.{ℕ, zero, suc, _≤_, _<_}
 use mathlib.Core.Path.{_≡_}
 use mathlib.Core.Bool.{true}
@@ -14,11 +14,11 @@ use Rattle.carry.specs.Next.{nextRefusal, nextImage}
 use Rattle.promises.specs.Laid.{World}
 use Rattle.promises.specs.History.{RunToEnd}
 
-pub record Batches (last : ℕ) (images tables : ℕ → List ℕ) (worlds : ℕ → World) : Type 0 where
+pub record Batches (last : ℕ) (images tables guards : ℕ → List ℕ) (worlds : ℕ → World) : Type 0 where
   pub fresh : ℕ → List ℕ
   pub out : ℕ → List ℕ
-  pub ends : (i : ℕ) → i ≤ last → RunToEnd (images i) (tables i) (worlds i)
-  pub accepted : (i : ℕ) → i < last → nextRefusal (images i) (worlds i .table) (worlds i .area) (fresh i) (out i) .number ≡ 0
+  pub ends : (i : ℕ) → i ≤ last → RunToEnd (images i) (tables i) (guards i) (worlds i)
+  pub accepted : (i : ℕ) → i < last → nextRefusal (images i) (worlds i .table) (guards i) (worlds i .area) (fresh i) (out i) .number ≡ 0
   pub follows : (i : ℕ) → i < last → images (suc i) ≡ nextImage (length (worlds i .table)) (images i) (worlds i .area) (fresh i)
 
 -- batch i's own table size and the state of its program q

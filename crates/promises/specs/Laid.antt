@@ -44,15 +44,22 @@ areaOn b gathered settled T =
 unfoldable pub tableOn : Batch → (settled : ℕ → Bool) → List ℕ → List ℕ
 tableOn b settled t = installed b (λ k. settled k && commits b k) (b .programs) t
 
--- the batch of an image on its opening table, on the way, and at its end
-abbrev pub worldOn : (image t : List ℕ) → (gathered settled : ℕ → Bool) → World
-worldOn image t gathered settled = record { table = tableOn (batchOf image t) settled t; area = areaOn (batchOf image t) gathered settled (length t) }
+-- a batch on its opening table, on the way, and at its end
+abbrev pub laidOn : Batch → (t : List ℕ) → (gathered settled : ℕ → Bool) → World
+laidOn b t gathered settled = record { table = tableOn b settled t; area = areaOn b gathered settled (length t) }
 
 abbrev pub all : ℕ → Bool
 all k = true
 
-abbrev pub paperWorld : (image t : List ℕ) → World
-paperWorld image t = worldOn image t all all
+abbrev pub endOf : Batch → (t : List ℕ) → World
+endOf b t = laidOn b t all all
+
+-- the batch of an image on its opening table with its guards, on the way, and at its end
+abbrev pub worldOn : (image t g : List ℕ) → (gathered settled : ℕ → Bool) → World
+worldOn image t g = laidOn (batchOf image t g) t
+
+abbrev pub paperWorld : (image t g : List ℕ) → World
+paperWorld image t g = endOf (batchOf image t g) t
 
 -- which programs an area says are gathered, and which settled
 unfoldable pub gatheredIn : ℕ → List ℕ → ℕ → Bool

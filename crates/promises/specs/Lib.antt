@@ -7,3 +7,4 @@ pub mod Batches
 pub mod Places
 pub mod Opened
 pub mod Sheet
+pub mod Unguarded

@@ -22,9 +22,9 @@ pub record Batch : Type 0 where
   pub second : Bool
   pub runs : ℕ → Outcome
 
--- the batch of an image on its opening table
-abbrev pub batchOf : List ℕ → List ℕ → Batch
-batchOf image t = record { programs = countOf image; second = secondRule image; runs = runAt image t }
+-- the batch of an image on its opening table, with its guards
+abbrev pub batchOf : (image t g : List ℕ) → Batch
+batchOf image t g = record { programs = countOf image; second = secondRule image; runs = runAt image t g }
 
 -- ---- Figure 4, Execute: "Read from the latest snapshot of db. Execute to compute T's read/write set (RS & WS)."
 

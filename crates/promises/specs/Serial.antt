@@ -1,4 +1,4 @@
--- "Running the committed programs one after another from the opening table, in the listed order." Assumes nothing.
+-- "Running the committed programs one after another from the opening table, in the listed order", "with the same guards". Assumes nothing.
 use Prim.Native.Nat.{ℕ}
 use mathlib.Core.List.{List, [], _∷_}
 use Rattle.machine.specs.Runs.{Outcome, keptBy}
@@ -10,11 +10,11 @@ abbrev pub storesOn : Outcome → List ℕ → List ℕ
 storesOn o t = storeAll (keptBy o .cells) (keptBy o .values) t
 
 -- the last table
-unfoldable pub serialTable : List ℕ → List ℕ → List ℕ → List ℕ
-serialTable image [] t = t
-serialTable image (k ∷ ks) t = serialTable image ks (storesOn (runAt image t k) t)
+unfoldable pub serialTable : (image g : List ℕ) → List ℕ → List ℕ → List ℕ
+serialTable image g [] t = t
+serialTable image g (k ∷ ks) t = serialTable image g ks (storesOn (runAt image t g k) t)
 
 -- each program's run, on the table that those before it have left
-unfoldable pub serialRuns : List ℕ → List ℕ → List ℕ → List Outcome
-serialRuns image [] t = []
-serialRuns image (k ∷ ks) t = runAt image t k ∷ serialRuns image ks (storesOn (runAt image t k) t)
+unfoldable pub serialRuns : (image g : List ℕ) → List ℕ → List ℕ → List Outcome
+serialRuns image g [] t = []
+serialRuns image g (k ∷ ks) t = runAt image t g k ∷ serialRuns image g ks (storesOn (runAt image t g k) t)
