@@ -1,5 +1,5 @@
 /*
- * A beacon runs two passes of small programs over a table of four cells.
+ * A beacon runs two passes of small programs over a table of four cells, one of which is guarded.
  *
  * Build and run, from the repository's root, once the archive is there (rt staticlib sheetbendle_c):
  *
@@ -15,6 +15,7 @@
 
 /* The beacon's cells: beacons sent, the count last reported, millivolts, seconds between beacons. */
 enum { SENT, REPORT, BATTERY, INTERVAL, CELLS };
+enum { GUARDS = SHEETBENDLE_GUARD_WORDS(CELLS) };
 
 /* The operations that the programs below use, by short names. */
 enum {
@@ -62,6 +63,15 @@ static const uint8_t save_power[] = {
     STORE,    0, 1, 0,
 };
 
+/*
+ * Falls silent: interval = 0. The interval's guard below does not allow that, so the program faults and
+ * changes nothing. Its detail is 256 * SHEETBENDLE_FAULT_AT_GUARD + 1: the store is instruction 1.
+ */
+static const uint8_t fall_silent[] = {
+    SET,   0, NUMBER(INTERVAL),
+    STORE, 0, 1, 0,
+};
+
 struct program {
     const uint8_t *bytes;
     size_t length;
@@ -70,13 +80,19 @@ struct program {
 #define PROGRAM(name) { name, sizeof name }
 
 static const struct program first_pass[] = { PROGRAM(count), PROGRAM(report), PROGRAM(restart) };
-static const struct program second_pass[] = { PROGRAM(save_power) };
+static const struct program second_pass[] = { PROGRAM(save_power), PROGRAM(fall_silent) };
 
 /* Everything lent to the library, for the largest image. */
 static uint8_t image[SHEETBENDLE_LONGEST_IMAGE];
 static uint8_t fresh[SHEETBENDLE_LONGEST_IMAGE];
 static uint8_t next[SHEETBENDLE_LONGEST_IMAGE];
 static uint32_t table[CELLS] = { 41, 0, 3210, 60 };
+static const uint32_t guards[GUARDS] = {
+    [2 * SENT] = SHEETBENDLE_FULL_RANGE,
+    [2 * REPORT] = SHEETBENDLE_FULL_RANGE,
+    [2 * BATTERY] = SHEETBENDLE_FULL_RANGE,
+    [2 * INTERVAL] = SHEETBENDLE_GUARD(30, 3600),
+};
 static uint32_t area[SHEETBENDLE_AREA_WORDS(CELLS, SHEETBENDLE_PROGRAMS)];
 static uint32_t list[SHEETBENDLE_PROGRAMS];
 
@@ -140,18 +156,18 @@ static void run_batch(size_t bytes) {
     sheetbendle_step steps[SHEETBENDLE_PROGRAMS];
     sheetbendle_count order;
 
-    check("open", sheetbendle_open(image, bytes, table, CELLS, area, area_words));
+    check("open", sheetbendle_open(image, bytes, table, CELLS, guards, GUARDS, area, area_words));
     for (i = 0; i < n; i++) {
-        steps[i] = sheetbendle_gather(image, bytes, table, CELLS, area, area_words, i);
+        steps[i] = sheetbendle_gather(image, bytes, table, CELLS, guards, GUARDS, area, area_words, i);
         check("gather", steps[i].refusal);
     }
     for (i = 0; i < n; i++) {
         if (steps[i].state == SHEETBENDLE_GATHERED) {
-            steps[i] = sheetbendle_settle(image, bytes, table, CELLS, area, area_words, i);
+            steps[i] = sheetbendle_settle(image, bytes, table, CELLS, guards, GUARDS, area, area_words, i);
             check("settle", steps[i].refusal);
         }
     }
-    order = sheetbendle_order(image, bytes, table, CELLS, area, area_words, list, SHEETBENDLE_PROGRAMS);
+    order = sheetbendle_order(image, bytes, table, CELLS, guards, GUARDS, area, area_words, list, SHEETBENDLE_PROGRAMS);
     check("order", order.refusal);
 
     for (i = 0; i < n; i++)
@@ -167,7 +183,7 @@ static void run_batch(size_t bytes) {
 static size_t take_up_next_image(size_t bytes, size_t fresh_bytes) {
     size_t n = SHEETBENDLE_PROGRAM_COUNT(image);
     sheetbendle_count length =
-        sheetbendle_next_image(image, bytes, table, CELLS, area, SHEETBENDLE_AREA_WORDS(CELLS, n),
+        sheetbendle_next_image(image, bytes, table, CELLS, guards, GUARDS, area, SHEETBENDLE_AREA_WORDS(CELLS, n),
                                fresh, fresh_bytes, next, sizeof next);
     check("next_image", length.refusal);
     memcpy(image, next, length.count);

@@ -42,13 +42,21 @@ static struct board boards[BOARDS] = { { .name = "flight computer" }, { .name = 
 
 static const uint32_t opening_table[CELLS] = { 3, 600, 5, 41, 2, 3300, 7 };
 
+/* Every value may be stored in every cell. The list never changes, so all boards share it. */
+static const uint32_t guards[SHEETBENDLE_GUARD_WORDS(CELLS)] = {
+    SHEETBENDLE_FULL_RANGE, SHEETBENDLE_FULL_RANGE, SHEETBENDLE_FULL_RANGE, SHEETBENDLE_FULL_RANGE,
+    SHEETBENDLE_FULL_RANGE, SHEETBENDLE_FULL_RANGE, SHEETBENDLE_FULL_RANGE,
+};
+
 static uint8_t fresh[SHEETBENDLE_LONGEST_IMAGE]; /* what is sent up, to all boards alike */
 static size_t fresh_bytes;
 static uint64_t random_programs; /* where the generator of programs stands */
 static unsigned pass;
 
 /* What most calls are lent. */
-#define LENT(board) (board)->image, (board)->bytes, (board)->table, CELLS, (board)->area, (board)->words
+#define LENT(board)                                          \
+    (board)->image, (board)->bytes, (board)->table, CELLS,   \
+    guards, SHEETBENDLE_GUARD_WORDS(CELLS), (board)->area, (board)->words
 
 /* The next random number, by SplitMix64: the same on every machine. */
 static uint64_t next(uint64_t *random) {

@@ -17,7 +17,7 @@ enum { HEATER, SPARE, CELLS };
 
 static const char *const cell_names[CELLS] = { "the heater's set point", "the spare copy" };
 
-enum { PROGRAMS = 3, WORDS = SHEETBENDLE_AREA_WORDS(CELLS, PROGRAMS) };
+enum { PROGRAMS = 3, WORDS = SHEETBENDLE_AREA_WORDS(CELLS, PROGRAMS), GUARDS = SHEETBENDLE_GUARD_WORDS(CELLS) };
 
 /* The image. Where the programs begin and end stands before them: 3 * 2 + 6 bytes, and then 4 for each instruction. */
 static uint8_t image[] = {
@@ -40,10 +40,11 @@ static uint8_t image[] = {
 };
 
 static uint32_t table[CELLS];
+static const uint32_t guards[GUARDS] = { SHEETBENDLE_FULL_RANGE, SHEETBENDLE_FULL_RANGE };
 static uint32_t area[WORDS];
 
 /* What every call is lent. */
-#define LENT image, sizeof image, table, CELLS, area, WORDS
+#define LENT image, sizeof image, table, CELLS, guards, GUARDS, area, WORDS
 
 /* Ends the example where a call was refused, and says so: where an instruction is bad, with its place. */
 static void check(const char *call, sheetbendle_refusal refusal) {

@@ -17,35 +17,48 @@
  *     sheetbendle_sheet_of                               from an image to its sheet
  *
  * Who owns what. The caller owns every buffer. The library keeps nothing between calls, has no
- * memory of its own and never asks for any; a batch lives in its image, table and area alone. So
- * several batches can be under way at once, each with its own table and area. From its opening to
- * its next image a batch is lent the same image, table and area at every call, and nobody else
- * changes them.
+ * memory of its own and never asks for any; a batch lives in its image, table, guards and area alone.
+ * So several batches can be under way at once, each with its own table and area. From its opening to
+ * its next image a batch is lent the same image, table, guards and area at every call, and nobody
+ * else changes them.
  *
  * Buffers. A buffer that a call may change, which is one whose pointer is not const, must not
  * overlap another buffer of that call; buffers that it only reads may overlap. Each pointer goes
- * with its length: in bytes for an image or a sheet, in cells for a table, in words for an area, in
- * entries for a list. A null pointer goes with length 0. A buffer of words is aligned as uint32_t
- * asks.
+ * with its length: in bytes for an image or a sheet, in cells for a table, in words for guards or an
+ * area, in entries for a list. A null pointer goes with length 0. A buffer of words is aligned as
+ * uint32_t asks.
  *
  * Threads. Calls may be made from any thread, also at the same time or from a handler that
  * interrupts another call, as long as no buffer that one of the calls under way may change overlaps
  * a buffer lent to another of them. So gatherings of one batch go one after the other, since each
- * changes the area; but boards with tables and areas of their own can share one image.
+ * changes the area; but boards with tables and areas of their own can share one image and one list
+ * of guards.
+ *
+ * Guards. Beside the table goes a guard list of two words for each cell, cell by cell: the smallest
+ * number that a program may store there, then the largest. Both are signed, as is the stored value
+ * when it is compared with them: in two's complement, where a word of 2147483648 or more stands for
+ * the number that is smaller by 4294967296. A heater that stays between -20 and 45 has the guard
+ * 4294967276, 45, since -20 is 4294967276, or (uint32_t)-20 in C. A store below low or above high is
+ * a fault: the program ends there, stores nothing and is not carried. Where low is above high the
+ * cell is closed, and every store to it is a fault. What the table holds when a batch is opened is
+ * compared with no guard, and a load is not either. No call changes the guards, so they can be a const
+ * array:
+ *
+ *     static const uint32_t guards[] = { SHEETBENDLE_GUARD(-20, 45), SHEETBENDLE_FULL_RANGE };
  *
  * What it needs. The archive is x86-64 code today, for the System V calling convention. From
  * outside it needs two functions, memcpy and memset. A call takes at most so many bytes of stack,
  * from the caller's frame down, with the arguments that lie there and the return address:
  *
  *     program   program_refusal   open   gather   settle   why   order   next_image   image_of   sheet_of
- *         202               186    218      570      298   298    1050          314        380        336
+ *         202               186    218      634      330   314    1082          346        380        336
  *
  * bench/run measures it, on x86-64, with the inputs that take the most, and tests/needs holds this
  * table to it. Where memcpy and memset are called, 100 of these bytes are left for their own.
  *
  * Refusals. Every call may be lent anything: it checks first, in the order of the rows below (the
- * next image: 1 to 3, 41 to 44, 5 to 7, 9, 21 to 23, 61 to 64, 11, 10; the image of a sheet: 51, 2,
- * 3, 42 to 44, 10), and the first that holds is returned. 41 to 44 are one check, and so are 61 to
+ * next image: 1 to 3, 41 to 44, 5, 14, 6, 7, 9, 21 to 23, 61 to 64, 11, 10; the image of a sheet: 51,
+ * 2, 3, 42 to 44, 10), and the first that holds is returned. 41 to 44 are one check, and so are 61 to
  * 64: it goes through the programs in their order, each from its first instruction on, and stops at
  * the first instruction that is bad. Where that one is bad in several ways, the first of the four is
  * returned. A refused call changes no lent memory, and every other number it returns is 0, but for
@@ -67,6 +80,7 @@
  *     43    the first bad instruction has an unused byte that is not 0                all
  *     44    the first bad instruction is a skip past the end of its program           all
  *      5    table of 0 or over 256 cells                                              those of a batch
+ *     14    guard list is not T pairs, which are 2T words                             those of a batch
  *      6    area is not 2T + 100n words                                               those of a batch
  *      7    a mark over n, a state over 5, a count over 32, or a cell of T or more    those of a batch but open
  *           among the counted ones
@@ -137,9 +151,9 @@ extern "C" {
 /*
  * The number of what this header declares: raised by every change of a signature, a state, a
  * refusal, a size or a place in memory. A program that was written for this one can ask for it:
- * #if SHEETBENDLE_VERSION != 4
+ * #if SHEETBENDLE_VERSION != 5
  */
-#define SHEETBENDLE_VERSION 4
+#define SHEETBENDLE_VERSION 5
 
 /* Limits. */
 #define SHEETBENDLE_PROGRAMS 64     /* the most programs of an image */
@@ -208,6 +222,16 @@ extern "C" {
 /* The words of an area. */
 #define SHEETBENDLE_AREA_WORDS(cells, programs) SHEETBENDLE_SLOT(cells, programs)
 
+/*
+ * The two words of a cell's guard, for the initializer of a guard list: one that allows low, high and
+ * what lies between them, from -2147483648 to 2147483647; and one that allows every value.
+ */
+#define SHEETBENDLE_GUARD(low, high) (uint32_t)(low), (uint32_t)(high)
+#define SHEETBENDLE_FULL_RANGE 0x80000000u, 0x7fffffffu
+
+/* The words of a guard list for a table of so many cells. */
+#define SHEETBENDLE_GUARD_WORDS(cells) (2u * (cells))
+
 /* Refusals; the table above says when. */
 #define SHEETBENDLE_DONE 0u
 #define SHEETBENDLE_REFUSED_IMAGE_SIZE 1u
@@ -218,6 +242,7 @@ extern "C" {
 #define SHEETBENDLE_REFUSED_UNUSED 43u
 #define SHEETBENDLE_REFUSED_SKIP 44u
 #define SHEETBENDLE_REFUSED_TABLE_SIZE 5u
+#define SHEETBENDLE_REFUSED_GUARDS 14u
 #define SHEETBENDLE_REFUSED_AREA_SIZE 6u
 #define SHEETBENDLE_REFUSED_AREA 7u
 #define SHEETBENDLE_REFUSED_NUMBER 8u
@@ -240,13 +265,14 @@ extern "C" {
 #define SHEETBENDLE_WAITING 0u   /* 0 */
 #define SHEETBENDLE_GATHERED 1u  /* 0 */
 #define SHEETBENDLE_REJECTED 2u  /* the code that the program rejected with */
-#define SHEETBENDLE_FAULTED 3u   /* 256 * kind + instruction number, from 0; a cell of T or more was named */
+#define SHEETBENDLE_FAULTED 3u   /* 256 * kind + instruction number, from 0 */
 #define SHEETBENDLE_COMMITTED 4u /* 0 */
 #define SHEETBENDLE_CARRIED 5u   /* the reason */
 
-/* Kinds of faults. */
-#define SHEETBENDLE_FAULT_AT_LOAD 1u
-#define SHEETBENDLE_FAULT_AT_STORE 2u
+/* Kinds of faults. Of a store, 2 comes before 3: a cell outside the table has no guard. */
+#define SHEETBENDLE_FAULT_AT_LOAD 1u  /* a load of a cell of T or more */
+#define SHEETBENDLE_FAULT_AT_STORE 2u /* a store to a cell of T or more */
+#define SHEETBENDLE_FAULT_AT_GUARD 3u /* a store of a value that the cell's guard does not allow */
 
 /* Reasons to carry a program. "Earlier" means a smaller number. */
 #define SHEETBENDLE_WAW 1u          /* an earlier program stores a cell that it stores; looked at first */
@@ -306,29 +332,32 @@ sheetbendle_refusal sheetbendle_program_refusal(const uint8_t *image, size_t ima
 
 /*
  * Opens a batch: sets the whole area to 0. What stood in the area before does not matter. Returns
- * the refusal: 1 to 3, 41 to 44, 5, 6; or 0.
+ * the refusal: 1 to 3, 41 to 44, 5, 14, 6; or 0.
  */
 sheetbendle_refusal sheetbendle_open(const uint8_t *image, size_t image_bytes,
                                      const uint32_t *table, size_t cells,
+                                     const uint32_t *guards, size_t guard_words,
                                      uint32_t *area, size_t words);
 
 /*
- * Gathers one waiting program: runs it on the table, rewrites its slot in the area and makes its
- * reservations there. The table does not change. Returns the state, which is gathered, rejected
- * or faulted, and the detail; or a refusal: 1 to 3, 41 to 44, 5 to 9.
+ * Gathers one waiting program: runs it on the table, under the guards, rewrites its slot in the area
+ * and makes its reservations there. The table does not change. Returns the state, which is gathered,
+ * rejected or faulted, and the detail; or a refusal: 1 to 3, 41 to 44, 5, 14, 6 to 9.
  */
 sheetbendle_step sheetbendle_gather(const uint8_t *image, size_t image_bytes,
                                     const uint32_t *table, size_t cells,
+                                    const uint32_t *guards, size_t guard_words,
                                     uint32_t *area, size_t words,
                                     size_t number);
 
 /*
  * Settles one gathered program, once no program is waiting: commits it, and its stores go into the
  * table, or carries it. Of the area only this program's state and detail change. Returns both; or
- * a refusal: 1 to 3, 41 to 44, 5 to 9.
+ * a refusal: 1 to 3, 41 to 44, 5, 14, 6 to 9.
  */
 sheetbendle_step sheetbendle_settle(const uint8_t *image, size_t image_bytes,
                                     uint32_t *table, size_t cells,
+                                    const uint32_t *guards, size_t guard_words,
                                     uint32_t *area, size_t words,
                                     size_t number);
 
@@ -336,10 +365,11 @@ sheetbendle_step sheetbendle_settle(const uint8_t *image, size_t image_bytes,
  * Says why a program was carried, once all are settled: for each dependency of the reason the lowest
  * cell, by its number, that shows it, and the earlier program that this cell's mark names, which is
  * the smallest that stores the cell (WAW, RAW) or reads it (WAR). Nothing that is lent changes.
- * Returns the reason and its cause; or a refusal: 1 to 3, 41 to 44, 5 to 9, 13, 15.
+ * Returns the reason and its cause; or a refusal: 1 to 3, 41 to 44, 5, 14, 6 to 9, 13, 15.
  */
 sheetbendle_cause sheetbendle_why(const uint8_t *image, size_t image_bytes,
                                   const uint32_t *table, size_t cells,
+                                  const uint32_t *guards, size_t guard_words,
                                   const uint32_t *area, size_t words,
                                   size_t number);
 
@@ -347,10 +377,11 @@ sheetbendle_cause sheetbendle_why(const uint8_t *image, size_t image_bytes,
  * Lists the committed programs' numbers in an order in which they could have run one after the
  * other, each on the table that the one before it left, with the same loads, stores and end table.
  * The list has at least n entries; those beyond the returned count stay as they are. Returns the
- * count; or a refusal: 1 to 3, 41 to 44, 5 to 7, 9, 10, 12.
+ * count; or a refusal: 1 to 3, 41 to 44, 5, 14, 6, 7, 9, 10, 12.
  */
 sheetbendle_count sheetbendle_order(const uint8_t *image, size_t image_bytes,
                                     const uint32_t *table, size_t cells,
+                                    const uint32_t *guards, size_t guard_words,
                                     const uint32_t *area, size_t words,
                                     uint32_t *list, size_t entries);
 
@@ -358,10 +389,11 @@ sheetbendle_count sheetbendle_order(const uint8_t *image, size_t image_bytes,
  * Writes the next batch's image: the carried programs in number order, then the fresh image's
  * programs, under the fresh image's rule byte. An output of SHEETBENDLE_LONGEST_IMAGE bytes is
  * always long enough; its bytes beyond the returned length stay as they are. Returns the length;
- * or a refusal: 1 to 3, 41 to 44, 5 to 7, 9, 21 to 23, 61 to 64, 11, 10.
+ * or a refusal: 1 to 3, 41 to 44, 5, 14, 6, 7, 9, 21 to 23, 61 to 64, 11, 10.
  */
 sheetbendle_count sheetbendle_next_image(const uint8_t *image, size_t image_bytes,
                                          const uint32_t *table, size_t cells,
+                                         const uint32_t *guards, size_t guard_words,
                                          const uint32_t *area, size_t words,
                                          const uint8_t *fresh, size_t fresh_bytes,
                                          uint8_t *out, size_t out_bytes);

@@ -85,6 +85,12 @@ IS(SHEETBENDLE_REFUSED_FRESH_SKIP, 64);
 IS(SHEETBENDLE_REFUSED_NOT_CARRIED, 13);
 IS(SHEETBENDLE_REFUSED_REASON, 15);
 
+/* Document 02, request 5: "a guard list of T pairs, low then high"; here T is 5. */
+IS(SHEETBENDLE_REFUSED_GUARDS, 14);
+IS(SHEETBENDLE_GUARD_WORDS(5), 2 * 5);
+static const uint32_t guards[] = { SHEETBENDLE_GUARD(-20, 45), SHEETBENDLE_FULL_RANGE };
+IS(sizeof guards, 2 * 2 * 4);
+
 /* States, kinds of faults, reasons. */
 IS(SHEETBENDLE_WAITING, 0);
 IS(SHEETBENDLE_GATHERED, 1);
@@ -94,6 +100,7 @@ IS(SHEETBENDLE_COMMITTED, 4);
 IS(SHEETBENDLE_CARRIED, 5);
 IS(SHEETBENDLE_FAULT_AT_LOAD, 1);
 IS(SHEETBENDLE_FAULT_AT_STORE, 2);
+IS(SHEETBENDLE_FAULT_AT_GUARD, 3);
 IS(SHEETBENDLE_WAW, 1);
 IS(SHEETBENDLE_RAW, 2);
 IS(SHEETBENDLE_RAW_WITH_WAR, 3);
@@ -135,8 +142,11 @@ MEMBER(sheetbendle_part, start, 0, sizeof(size_t));
 MEMBER(sheetbendle_part, length, sizeof(size_t), sizeof(size_t));
 SIZE(sheetbendle_part, 2 * sizeof(size_t));
 
-/* The program count of an image lies in two bytes, the low one first, which no constant can show. */
+/* What no constant can show: the program count of an image lies in two bytes, the low one first; a guard in two words, in two's complement. */
 int main(void) {
     static const uint8_t image[] = { 3, 2 };
-    return SHEETBENDLE_PROGRAM_COUNT(image) == 3 + 256 * 2 ? 0 : 1;
+    int count_is_good = SHEETBENDLE_PROGRAM_COUNT(image) == 3 + 256 * 2;
+    int guard_is_good = guards[0] == 4294967276u && guards[1] == 45;
+    int full_range_is_good = guards[2] == 2147483648u && guards[3] == 2147483647u;
+    return count_is_good && guard_is_good && full_range_is_good ? 0 : 1;
 }

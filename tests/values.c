@@ -6,7 +6,7 @@
 #include <sheetbendle.h>
 #include <stdio.h>
 
-enum { CELLS = 4, PROGRAMS = 5, WORDS = SHEETBENDLE_AREA_WORDS(CELLS, PROGRAMS) };
+enum { CELLS = 4, PROGRAMS = 5, WORDS = SHEETBENDLE_AREA_WORDS(CELLS, PROGRAMS), GUARDS = SHEETBENDLE_GUARD_WORDS(CELLS) };
 
 static const uint8_t image[] = {
     PROGRAMS, 0, SHEETBENDLE_RULE_2, 0,
@@ -36,6 +36,7 @@ static const uint8_t image[] = {
 static const uint8_t fresh[] = { 1, 0, SHEETBENDLE_RULE_1, 0, 8, 0, 8, 0 };
 
 static uint32_t table[CELLS] = { 10, 11, 12, 13 };
+static const uint32_t guards[GUARDS] = { SHEETBENDLE_FULL_RANGE, SHEETBENDLE_FULL_RANGE, SHEETBENDLE_FULL_RANGE, SHEETBENDLE_FULL_RANGE };
 static uint32_t area[WORDS];
 static uint32_t list[PROGRAMS] = { 90, 91, 92, 93, 94 };
 static uint8_t out[SHEETBENDLE_LONGEST_IMAGE];
@@ -54,7 +55,7 @@ static void is(const char *what, unsigned line, unsigned long got, unsigned long
 #define IS(got, expected) is(#got, __LINE__, got, expected)
 
 /* Everything lent to most calls. */
-#define LENT image, sizeof image, table, CELLS, area, WORDS
+#define LENT image, sizeof image, table, CELLS, guards, GUARDS, area, WORDS
 
 /* A refusal that names a bad instruction; and one that does not, or 0. */
 #define REFUSAL_AT(refusal_, number_, program_, instruction_) \
@@ -123,7 +124,12 @@ static void slot_is(size_t program, uint32_t state, uint32_t detail, uint32_t re
 }
 
 /* A batch of its own for why, in which the members of a cause are five different numbers, none of them 0. */
-enum { CAUSE_CELLS = 7, CAUSE_PROGRAMS = 5, CAUSE_WORDS = SHEETBENDLE_AREA_WORDS(CAUSE_CELLS, CAUSE_PROGRAMS) };
+enum {
+    CAUSE_CELLS = 7,
+    CAUSE_PROGRAMS = 5,
+    CAUSE_WORDS = SHEETBENDLE_AREA_WORDS(CAUSE_CELLS, CAUSE_PROGRAMS),
+    CAUSE_GUARDS = SHEETBENDLE_GUARD_WORDS(CAUSE_CELLS)
+};
 
 static uint8_t cause_image[] = {
     CAUSE_PROGRAMS, 0, SHEETBENDLE_RULE_2, 0,
@@ -145,9 +151,14 @@ static uint8_t cause_image[] = {
 };
 
 static uint32_t cause_table[CAUSE_CELLS];
+/* The programs store 5 and 0, and only in these two cells. */
+static const uint32_t cause_guards[CAUSE_GUARDS] = {
+    [2 * 5] = SHEETBENDLE_GUARD(0, 5),
+    [2 * 6] = SHEETBENDLE_GUARD(0, 5),
+};
 static uint32_t cause_area[CAUSE_WORDS];
 
-#define CAUSE_LENT cause_image, sizeof cause_image, cause_table, CAUSE_CELLS, cause_area, CAUSE_WORDS
+#define CAUSE_LENT cause_image, sizeof cause_image, cause_table, CAUSE_CELLS, cause_guards, CAUSE_GUARDS, cause_area, CAUSE_WORDS
 
 /* Runs that batch under a rule, in number order. */
 static void run_cause_batch(uint8_t rule) {
@@ -179,7 +190,7 @@ static void causes(void) {
 /* The image with one byte changed, so that an instruction is bad. */
 static uint8_t bad[sizeof image];
 
-#define BAD bad, sizeof bad, table, CELLS, area, WORDS
+#define BAD bad, sizeof bad, table, CELLS, guards, GUARDS, area, WORDS
 
 /* Changes a byte: every call that is lent the image then names this place, and the next image that is lent it as the fresh one does so by 20 more. */
 static void bad_instruction(size_t place, uint8_t byte, uint32_t number, uint32_t program, uint32_t instruction) {
@@ -205,6 +216,76 @@ static void bad_instructions(void) {
     bad_instruction(53, 8, SHEETBENDLE_REFUSED_REGISTER, 2, 3);
     bad_instruction(67, 1, SHEETBENDLE_REFUSED_UNUSED, 3, 2);
     bad_instruction(60, SHEETBENDLE_OP_SKIPLESS, SHEETBENDLE_REFUSED_SKIP, 3, 1);
+}
+
+/* A batch of its own for guards: cell 0 is closed, cell 1 is guarded from -20 to 300, cell 2 has to be -1. */
+enum { GUARDED_CELLS = 3, GUARDED_PROGRAMS = 5, GUARDED_WORDS = SHEETBENDLE_AREA_WORDS(GUARDED_CELLS, GUARDED_PROGRAMS) };
+
+static const uint32_t guarded_guards[] = {
+    SHEETBENDLE_GUARD(1, 0), SHEETBENDLE_GUARD(-20, 300), SHEETBENDLE_GUARD(-1, -1),
+    /* one pair too many */
+    SHEETBENDLE_FULL_RANGE,
+};
+
+static const uint8_t guarded_image[] = {
+    GUARDED_PROGRAMS, 0, SHEETBENDLE_RULE_1, 0,
+    16, 0, 20, 0, 32, 0, 44, 0, 60, 0, 68, 0,
+    /* 0 stores 0 in cell 0, which is closed: a fault of kind 3 at instruction 0. */
+    SHEETBENDLE_OP_STORE, 0, 0, 0,
+    /* 1 stores 300 in cell 1. */
+    SHEETBENDLE_OP_SET, 0, 0, 1,
+    SHEETBENDLE_OP_SET, 1, 1, 44,
+    SHEETBENDLE_OP_STORE, 0, 1, 0,
+    /* 2 stores 301 there: a fault of kind 3 at instruction 2. */
+    SHEETBENDLE_OP_SET, 0, 0, 1,
+    SHEETBENDLE_OP_SET, 1, 1, 45,
+    SHEETBENDLE_OP_STORE, 0, 1, 0,
+    /* 3 stores 0 - 1 in cell 2. */
+    SHEETBENDLE_OP_SET, 0, 0, 2,
+    SHEETBENDLE_OP_SET, 1, 0, 1,
+    SHEETBENDLE_OP_SUB, 2, 2, 1,
+    SHEETBENDLE_OP_STORE, 0, 2, 0,
+    /* 4 stores in cell 3 of 3: a fault of kind 2 at instruction 1, and no guard is asked. */
+    SHEETBENDLE_OP_SET, 0, 0, 3,
+    SHEETBENDLE_OP_STORE, 0, 0, 0,
+};
+
+static uint32_t guarded_table[GUARDED_CELLS] = { 7, 1000, 8 };
+static uint32_t guarded_area[GUARDED_WORDS];
+
+/* What the calls of this batch are lent, with so many words of the guard list. */
+#define GUARDED_LENT(guard_words) \
+    guarded_image, sizeof guarded_image, guarded_table, GUARDED_CELLS, guarded_guards, guard_words, guarded_area, GUARDED_WORDS
+
+/* Guards that are not T pairs: every call that is lent them refuses 14. */
+static void guards_refused(size_t guard_words) {
+    REFUSAL_IS(sheetbendle_open(GUARDED_LENT(guard_words)), SHEETBENDLE_REFUSED_GUARDS);
+    STEP_IS(sheetbendle_gather(GUARDED_LENT(guard_words), 0), SHEETBENDLE_REFUSED_GUARDS, 0, 0);
+    STEP_IS(sheetbendle_settle(GUARDED_LENT(guard_words), 0), SHEETBENDLE_REFUSED_GUARDS, 0, 0);
+    WHY_REFUSED(sheetbendle_why(GUARDED_LENT(guard_words), 0), SHEETBENDLE_REFUSED_GUARDS);
+    COUNT_IS(sheetbendle_order(GUARDED_LENT(guard_words), list, PROGRAMS), SHEETBENDLE_REFUSED_GUARDS, 0);
+    COUNT_IS(sheetbendle_next_image(GUARDED_LENT(guard_words), fresh, sizeof fresh, out, sizeof out), SHEETBENDLE_REFUSED_GUARDS, 0);
+}
+
+/* Both ends of a guard, a closed cell, a negative number, and kind 2 before kind 3; the opening values are no fault. */
+static void guarded(void) {
+    enum { PAIRS = SHEETBENDLE_GUARD_WORDS(GUARDED_CELLS) };
+    REFUSAL_IS(sheetbendle_open(GUARDED_LENT(PAIRS)), SHEETBENDLE_DONE);
+    STEP_IS(sheetbendle_gather(GUARDED_LENT(PAIRS), 0), SHEETBENDLE_DONE, SHEETBENDLE_FAULTED, 768);
+    STEP_IS(sheetbendle_gather(GUARDED_LENT(PAIRS), 1), SHEETBENDLE_DONE, SHEETBENDLE_GATHERED, 0);
+    STEP_IS(sheetbendle_gather(GUARDED_LENT(PAIRS), 2), SHEETBENDLE_DONE, SHEETBENDLE_FAULTED, 256 * SHEETBENDLE_FAULT_AT_GUARD + 2);
+    STEP_IS(sheetbendle_gather(GUARDED_LENT(PAIRS), 3), SHEETBENDLE_DONE, SHEETBENDLE_GATHERED, 0);
+    STEP_IS(sheetbendle_gather(GUARDED_LENT(PAIRS), 4), SHEETBENDLE_DONE, SHEETBENDLE_FAULTED, 513);
+    guards_refused(PAIRS - 1);
+    guards_refused(PAIRS + 1);
+    guards_refused(PAIRS + 2);
+    guards_refused(GUARDED_CELLS);
+    guards_refused(0);
+    STEP_IS(sheetbendle_settle(GUARDED_LENT(PAIRS), 1), SHEETBENDLE_DONE, SHEETBENDLE_COMMITTED, 0);
+    STEP_IS(sheetbendle_settle(GUARDED_LENT(PAIRS), 3), SHEETBENDLE_DONE, SHEETBENDLE_COMMITTED, 0);
+    IS(guarded_table[0], 7);
+    IS(guarded_table[1], 300);
+    IS(guarded_table[2], 4294967295u);
 }
 
 /* Sheets: that of the fresh image; one of 28 bytes with an instruction whose bytes are told apart; the same with a byte over 255. */
@@ -269,7 +350,7 @@ int main(void) {
     REFUSAL_IS(sheetbendle_program_refusal(image, sizeof image, PROGRAMS), SHEETBENDLE_REFUSED_NUMBER);
     IS(SHEETBENDLE_PROGRAM_COUNT(image), 5);
 
-    REFUSAL_IS(sheetbendle_open(image, sizeof image, table, CELLS, area, WORDS - 1), SHEETBENDLE_REFUSED_AREA_SIZE);
+    REFUSAL_IS(sheetbendle_open(image, sizeof image, table, CELLS, guards, GUARDS, area, WORDS - 1), SHEETBENDLE_REFUSED_AREA_SIZE);
     REFUSAL_IS(sheetbendle_open(LENT), SHEETBENDLE_DONE);
 
     STEP_IS(sheetbendle_gather(LENT, 4), SHEETBENDLE_DONE, SHEETBENDLE_REJECTED, 77);
@@ -322,6 +403,7 @@ int main(void) {
     IS(out[2], SHEETBENDLE_RULE_1);
 
     bad_instructions();
+    guarded();
     sheets();
 
     printf("values in C: %u passed, %u failed\n", passed, failed);

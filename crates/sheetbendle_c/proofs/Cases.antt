@@ -37,14 +37,14 @@ program-refusal-tells = (record { refusal = refl }, record { refusal = refl }, r
 count-tells : CountTells (counted 28) (record { refusal = refusing 0; count = 28 }) × CountTells (noCount (refusing 10)) (record { refusal = refusing 10; count = 0 })
 count-tells = (record { refusal = refl; count = refl }, record { refusal = refl; count = refl })
 
-open-tells : OpenTells (image 0 []) (5 ∷ []) (7 ∷ 7 ∷ []) (refusing 0) (0 ∷ 0 ∷ [])
-    × OpenTells (image 0 []) [] (7 ∷ 7 ∷ []) (refusing 5) (7 ∷ 7 ∷ [])
-    × OpenTells bad [] (7 ∷ 7 ∷ []) (refusingAt 42 1 1) (7 ∷ 7 ∷ [])
+open-tells : OpenTells (image 0 []) (5 ∷ []) (1 ∷ 0 ∷ []) (7 ∷ 7 ∷ []) (refusing 0) (0 ∷ 0 ∷ [])
+    × OpenTells (image 0 []) [] [] (7 ∷ 7 ∷ []) (refusing 5) (7 ∷ 7 ∷ [])
+    × OpenTells bad [] [] (7 ∷ 7 ∷ []) (refusingAt 42 1 1) (7 ∷ 7 ∷ [])
 unfolding steps.opened
 open-tells = (record { refusal = refl; area = refl }, record { refusal = refl; area = refl }, record { refusal = refl; area = refl })
 
 -- one program on one cell: it rejects with 7; it has stored 60 and is committed, and listed; it is carried
-gather-tells : GatherTells (image 1 (program (reject 7 ∷ []) ∷ [])) (5 ∷ []) (replicate 102 0) 0 (record { refusal = refusing 0; state = 2; detail = 7 })
+gather-tells : GatherTells (image 1 (program (reject 7 ∷ []) ∷ [])) (5 ∷ []) (1 ∷ 0 ∷ []) (replicate 102 0) 0 (record { refusal = refusing 0; state = 2; detail = 7 })
     (area (0 ∷ []) (0 ∷ []) (slot 2 7 [] [] [] ∷ []))
 unfolding steps.opened
 gather-tells = record { numbers = record { refusal = refl; state = refl; detail = refl }; area = refl }
@@ -52,7 +52,7 @@ gather-tells = record { numbers = record { refusal = refl; state = refl; detail 
 abbrev storing : ℕ → List ℕ
 storing state = area (1 ∷ []) (0 ∷ []) (slot state 0 [] (0 ∷ []) (60 ∷ []) ∷ [])
 
-settle-tells : SettleTells (image 1 ([] ∷ [])) (5 ∷ []) (storing 1) 0 (record { refusal = refusing 0; state = 4; detail = 0 }) (60 ∷ []) (storing 4)
+settle-tells : SettleTells (image 1 ([] ∷ [])) (5 ∷ []) (1 ∷ 0 ∷ []) (storing 1) 0 (record { refusal = refusing 0; state = 4; detail = 0 }) (60 ∷ []) (storing 4)
 unfolding steps.opened
 settle-tells = record { numbers = record { refusal = refl; state = refl; detail = refl }; table = refl; area = refl }
 
@@ -60,19 +60,19 @@ settle-tells = record { numbers = record { refusal = refl; state = refl; detail 
 abbrev waited : List ℕ
 waited = area (1 ∷ []) (2 ∷ []) (slot 4 0 [] (0 ∷ []) (60 ∷ []) ∷ slot 5 2 (0 ∷ []) [] [] ∷ [])
 
-why-tells : WhyTells (image 1 ([] ∷ [] ∷ [])) (5 ∷ []) waited 1 (record { refusal = refusing 0; reason = 2; cell = 0; program = 0; «war_cell» = 0; «war_program» = 0 })
-    × WhyTells (image 1 ([] ∷ [] ∷ [])) (5 ∷ []) waited 0 (record { refusal = refusing 13; reason = 0; cell = 0; program = 0; «war_cell» = 0; «war_program» = 0 })
+why-tells : WhyTells (image 1 ([] ∷ [] ∷ [])) (5 ∷ []) (1 ∷ 0 ∷ []) waited 1 (record { refusal = refusing 0; reason = 2; cell = 0; program = 0; «war_cell» = 0; «war_program» = 0 })
+    × WhyTells (image 1 ([] ∷ [] ∷ [])) (5 ∷ []) (1 ∷ 0 ∷ []) waited 0 (record { refusal = refusing 13; reason = 0; cell = 0; program = 0; «war_cell» = 0; «war_program» = 0 })
 unfolding causes.opened
 why-tells = (
   record { numbers = record { refusal = refl; reason = refl; cell = refl; program = refl; war-cell = refl; war-program = refl } },
   record { numbers = record { refusal = refl; reason = refl; cell = refl; program = refl; war-cell = refl; war-program = refl } },
 )
 
-order-tells : OrderTells (image 1 ([] ∷ [])) (5 ∷ []) (storing 4) (9 ∷ 9 ∷ []) (record { refusal = refusing 0; count = 1 }) (0 ∷ 9 ∷ [])
+order-tells : OrderTells (image 1 ([] ∷ [])) (5 ∷ []) (1 ∷ 0 ∷ []) (storing 4) (9 ∷ 9 ∷ []) (record { refusal = refusing 0; count = 1 }) (0 ∷ 9 ∷ [])
 unfolding listing.opened
 order-tells = record { numbers = record { refusal = refl; count = refl }; entries = refl }
 
-next-tells : NextTells (image 1 ([] ∷ [])) (5 ∷ []) (storing 5) (image 2 []) (replicate 9 9) (record { refusal = refusing 0; count = 8 }) (image 2 ([] ∷ []) ++ (9 ∷ []))
+next-tells : NextTells (image 1 ([] ∷ [])) (5 ∷ []) (1 ∷ 0 ∷ []) (storing 5) (image 2 []) (replicate 9 9) (record { refusal = refusing 0; count = 8 }) (image 2 ([] ∷ []) ++ (9 ∷ []))
 unfolding carry.opened
 next-tells = record { numbers = record { refusal = refl; count = refl }; bytes = refl }
 

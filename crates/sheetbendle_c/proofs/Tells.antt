@@ -47,28 +47,28 @@ use Rattle.sheetbendle_c.specs.declared.TextNumbers as declared
 
 -- ---- the numbers are the answer's
 
-pub gather-tells : (image t a : List ℕ) (k : ℕ) (answer : Gathered) (a′ : List ℕ) (r : StepNumbers) → GatherSays image t a k answer a′
-    → Tells (numbersOfGathered answer) r → GatherTells image t a k r a′
-gather-tells image t a k answer a′ r says tells =
+pub gather-tells : (image t g a : List ℕ) (k : ℕ) (answer : Gathered) (a′ : List ℕ) (r : StepNumbers) → GatherSays image t g a k answer a′
+    → Tells (numbersOfGathered answer) r → GatherTells image t g a k r a′
+gather-tells image t g a k answer a′ r says tells =
     record { numbers = subst (λ (x : Gathered). Tells (numbersOfGathered x) r) (says .answer) tells; area = says .area }
 
-pub settle-tells : (image t a : List ℕ) (k : ℕ) (answer : Settled) (t′ a′ : List ℕ) (r : StepNumbers) → SettleSays image t a k answer t′ a′
-    → Tells (numbersOfSettled answer) r → SettleTells image t a k r t′ a′
-settle-tells image t a k answer t′ a′ r says tells =
+pub settle-tells : (image t g a : List ℕ) (k : ℕ) (answer : Settled) (t′ a′ : List ℕ) (r : StepNumbers) → SettleSays image t g a k answer t′ a′
+    → Tells (numbersOfSettled answer) r → SettleTells image t g a k r t′ a′
+settle-tells image t g a k answer t′ a′ r says tells =
     record { numbers = subst (λ (x : Settled). Tells (numbersOfSettled x) r) (says .answer) tells; table = says .table; area = says .area }
 
-pub why-tells : (image t a : List ℕ) (k : ℕ) (answer : Why) (r : CauseNumbers) → WhySays image t a k answer
-    → CauseTells (numbersOfWhy answer) r → WhyTells image t a k r
-why-tells image t a k answer r says tells = record { numbers = subst (λ (x : Why). CauseTells (numbersOfWhy x) r) (says .answer) tells }
+pub why-tells : (image t g a : List ℕ) (k : ℕ) (answer : Why) (r : CauseNumbers) → WhySays image t g a k answer
+    → CauseTells (numbersOfWhy answer) r → WhyTells image t g a k r
+why-tells image t g a k answer r says tells = record { numbers = subst (λ (x : Why). CauseTells (numbersOfWhy x) r) (says .answer) tells }
 
-pub order-tells : (image t a list : List ℕ) (answer : Listed) (list′ : List ℕ) (r : CountNumbers) → OrderSays image t a list answer list′
-    → CountTells (numbersOfListed answer) r → OrderTells image t a list r list′
-order-tells image t a list answer list′ r says tells =
+pub order-tells : (image t g a list : List ℕ) (answer : Listed) (list′ : List ℕ) (r : CountNumbers) → OrderSays image t g a list answer list′
+    → CountTells (numbersOfListed answer) r → OrderTells image t g a list r list′
+order-tells image t g a list answer list′ r says tells =
     record { numbers = subst (λ (x : Listed). CountTells (numbersOfListed x) r) (says .answer) tells; entries = says .entries }
 
-pub next-tells : (image t a fresh out : List ℕ) (answer : Next) (out′ : List ℕ) (r : CountNumbers) → NextSays image t a fresh out answer out′
-    → CountTells (numbersOfNext answer) r → NextTells image t a fresh out r out′
-next-tells image t a fresh out answer out′ r says tells =
+pub next-tells : (image t g a fresh out : List ℕ) (answer : Next) (out′ : List ℕ) (r : CountNumbers) → NextSays image t g a fresh out answer out′
+    → CountTells (numbersOfNext answer) r → NextTells image t g a fresh out r out′
+next-tells image t g a fresh out answer out′ r says tells =
     record { numbers = subst (λ (x : Next). CountTells (numbersOfNext x) r) (says .answer) tells; bytes = says .bytes }
 
 pub image-of-tells : (sheet out : List ℕ) (answer : Written) (out′ : List ℕ) (r : declared.TextNumbers) → ImageOfSays sheet out answer out′
@@ -83,33 +83,33 @@ sheet-of-tells image out answer out′ r says tells =
 
 -- ---- the counts are small: an order has at most 64 entries, an image at most 8326 bytes
 
-few-listed : (image t a list : List ℕ) → orderRefusal image t a list .number ≡ 0 → length (orderOf (length t) (countOf image) a) < 2 ^ 32
+few-listed : (image t g a list : List ℕ) → orderRefusal image t g a list .number ≡ 0 → length (orderOf (length t) (countOf image) a) < 2 ^ 32
 unfolding orderRefusal orderExists committedCount
-few-listed image t a list e =
-    let w = none-after (listRefusal image t a list) _ e in
+few-listed image t g a list e =
+    let w = none-after (listRefusal image t g a list) _ e in
     let full = eqb-true (length (orderOf (length t) (countOf image) a)) (count (inGroup Committed (length t) a) (countOf image)) (none-fails (orderExists (length t) (countOf image) a) refusal.noOrder _ (λ z. omega arith) (w .1) .0) in
-    omega (arith, full, count-le (inGroup Committed (length t) a) (countOf image), list-shows image t a list (w .0) .0 .programs)
+    omega (arith, full, count-le (inGroup Committed (length t) a) (countOf image), list-shows image t g a list (w .0) .0 .programs)
 
-pub order-small : (image t a list : List ℕ) (answer : Listed) (list′ : List ℕ) → OrderSays image t a list answer list′
+pub order-small : (image t g a list : List ℕ) (answer : Listed) (list′ : List ℕ) → OrderSays image t g a list answer list′
     → numbersOfListed answer .count < 2 ^ 32
 unfolding orderAnswer
-order-small image t a list answer list′ says =
+order-small image t g a list answer list′ says =
     subst (λ (x : Listed). numbersOfListed x .count < 2 ^ 32) (sym (says .answer))
-    (unless-either (λ x. numbersOfListed x .count < 2 ^ 32) (orderRefusal image t a list) listing.Refused _ (omega arith) (few-listed image t a list))
+    (unless-either (λ x. numbersOfListed x .count < 2 ^ 32) (orderRefusal image t g a list) listing.Refused _ (omega arith) (few-listed image t g a list))
 
-short-next : (image t a fresh out : List ℕ) → nextRefusal image t a fresh out .number ≡ 0 → length (nextImage (length t) image a fresh) < 2 ^ 32
+short-next : (image t g a fresh out : List ℕ) → nextRefusal image t g a fresh out .number ≡ 0 → length (nextImage (length t) image a fresh) < 2 ^ 32
 unfolding sizeGood
-short-next image t a fresh out e =
+short-next image t g a fresh out e =
     let i = nextImage (length t) image a fresh in
-    let short : length i ≤ maxBytes = leb-true (length i) maxBytes (and-right (leb minBytes (length i)) (leb (length i) maxBytes) (accepted i (next-good image t a fresh out e) .size)) in
+    let short : length i ≤ maxBytes = leb-true (length i) maxBytes (and-right (leb minBytes (length i)) (leb (length i) maxBytes) (accepted i (next-good image t g a fresh out e) .size)) in
     omega arith
 
-pub next-small : (image t a fresh out : List ℕ) (answer : Next) (out′ : List ℕ) → NextSays image t a fresh out answer out′
+pub next-small : (image t g a fresh out : List ℕ) (answer : Next) (out′ : List ℕ) → NextSays image t g a fresh out answer out′
     → numbersOfNext answer .count < 2 ^ 32
 unfolding nextAnswer
-next-small image t a fresh out answer out′ says =
+next-small image t g a fresh out answer out′ says =
     subst (λ (x : Next). numbersOfNext x .count < 2 ^ 32) (sym (says .answer))
-    (unless-either (λ x. numbersOfNext x .count < 2 ^ 32) (nextRefusal image t a fresh out) carrying.Refused _ (omega arith) (short-next image t a fresh out))
+    (unless-either (λ x. numbersOfNext x .count < 2 ^ 32) (nextRefusal image t g a fresh out) carrying.Refused _ (omega arith) (short-next image t g a fresh out))
 
 pub image-of-small : (sheet out : List ℕ) (answer : Written) (out′ : List ℕ) → ImageOfSays sheet out answer out′ → numbersOfWritten answer .length < 2 ^ 32
 image-of-small sheet out answer out′ says =

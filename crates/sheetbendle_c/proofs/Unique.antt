@@ -54,23 +54,23 @@ program-unique κs a x y s t p q = part-once _ _ x y p q
 pub program-refusal-unique : Unique {A = Refusal} 1 program-refusal-kinds.ps program-refusal-kinds.r (λ κs x s. x) program-refusal.Post
 program-refusal-unique κs a x y s t p q = cc
 
-pub open-unique : Unique {A = Refusal × List ℕ} 3 open-kinds.ps open-kinds.r (λ κs x s. (x, now (s .1 .1 .0))) opening.Post
+pub open-unique : Unique {A = Refusal × List ℕ} 4 open-kinds.ps open-kinds.r (λ κs x s. (x, now (s .1 .1 .1 .0))) opening.Post
 open-unique κs a x y s t p q = cc
 
-pub gather-unique : Unique {A = StepNumbers × List ℕ} 3 gather-kinds.ps gather-kinds.r (λ κs x s. (x, now (s .1 .1 .0))) gather.Post
+pub gather-unique : Unique {A = StepNumbers × List ℕ} 4 gather-kinds.ps gather-kinds.r (λ κs x s. (x, now (s .1 .1 .1 .0))) gather.Post
 gather-unique κs a x y s t p q = cc (told-once _ x y (p .numbers) (q .numbers))
 
-pub settle-unique : Unique {A = StepNumbers × List ℕ × List ℕ} 3 settle-kinds.ps settle-kinds.r
-    (λ κs x s. (x, now (s .1 .0), now (s .1 .1 .0))) settle.Post
+pub settle-unique : Unique {A = StepNumbers × List ℕ × List ℕ} 4 settle-kinds.ps settle-kinds.r
+    (λ κs x s. (x, now (s .1 .0), now (s .1 .1 .1 .0))) settle.Post
 settle-unique κs a x y s t p q = cc (told-once _ x y (p .numbers) (q .numbers))
 
-pub why-unique : Unique {A = CauseNumbers} 3 why-kinds.ps why-kinds.r (λ κs x s. x) why.Post
+pub why-unique : Unique {A = CauseNumbers} 4 why-kinds.ps why-kinds.r (λ κs x s. x) why.Post
 why-unique κs a x y s t p q = cause-once _ x y (p .numbers) (q .numbers)
 
-pub order-unique : Unique {A = CountNumbers × List ℕ} 4 order-kinds.ps order-kinds.r (λ κs x s. (x, now (s .1 .1 .1 .0))) order.Post
+pub order-unique : Unique {A = CountNumbers × List ℕ} 5 order-kinds.ps order-kinds.r (λ κs x s. (x, now (s .1 .1 .1 .1 .0))) order.Post
 order-unique κs a x y s t p q = cc (count-once _ x y (p .numbers) (q .numbers))
 
-pub next-image-unique : Unique {A = CountNumbers × List ℕ} 5 next-kinds.ps next-kinds.r (λ κs x s. (x, now (s .1 .1 .1 .1 .0))) next.Post
+pub next-image-unique : Unique {A = CountNumbers × List ℕ} 6 next-kinds.ps next-kinds.r (λ κs x s. (x, now (s .1 .1 .1 .1 .1 .0))) next.Post
 next-image-unique κs a x y s t p q = cc (count-once _ x y (p .numbers) (q .numbers))
 
 pub image-of-unique : Unique {A = declared.TextNumbers × List ℕ} 2 image-of-kinds.ps image-of-kinds.r (λ κs x s. (x, now (s .1 .0))) image-of.Post

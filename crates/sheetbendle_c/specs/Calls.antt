@@ -33,33 +33,33 @@ pub record PartTells (image : List ℕ) (k : ℕ) (r : PartNumbers) : Type 0 whe
 pub record ProgramRefusalTells (image : List ℕ) (k : ℕ) (r : Refusal) : Type 0 where
   pub refusal : r ≡ programRefusalOf image k
 
-pub record OpenTells (image t a : List ℕ) (r : Refusal) (a′ : List ℕ) : Type 0 where
-  pub refusal : r ≡ openRefusal image t a
-  pub area : a′ ≡ openArea image t a
+pub record OpenTells (image t g a : List ℕ) (r : Refusal) (a′ : List ℕ) : Type 0 where
+  pub refusal : r ≡ openRefusal image t g a
+  pub area : a′ ≡ openArea image t g a
 
 pub record CountTells (numbers : Counted) (r : CountNumbers) : Type 0 where
   pub refusal : r .refusal ≡ numbers .refusal
   pub count : r .count ≡ numbers .count
 
-pub record GatherTells (image t a : List ℕ) (k : ℕ) (r : StepNumbers) (a′ : List ℕ) : Type 0 where
-  pub numbers : Tells (numbersOfGathered (gatherAnswer image t a k)) r
-  pub area : a′ ≡ gatherArea image t a k
+pub record GatherTells (image t g a : List ℕ) (k : ℕ) (r : StepNumbers) (a′ : List ℕ) : Type 0 where
+  pub numbers : Tells (numbersOfGathered (gatherAnswer image t g a k)) r
+  pub area : a′ ≡ gatherArea image t g a k
 
-pub record SettleTells (image t a : List ℕ) (k : ℕ) (r : StepNumbers) (t′ a′ : List ℕ) : Type 0 where
-  pub numbers : Tells (numbersOfSettled (settleAnswer image t a k)) r
-  pub table : t′ ≡ settleTable image t a k
-  pub area : a′ ≡ settleArea image t a k
+pub record SettleTells (image t g a : List ℕ) (k : ℕ) (r : StepNumbers) (t′ a′ : List ℕ) : Type 0 where
+  pub numbers : Tells (numbersOfSettled (settleAnswer image t g a k)) r
+  pub table : t′ ≡ settleTable image t g a k
+  pub area : a′ ≡ settleArea image t g a k
 
-pub record WhyTells (image t a : List ℕ) (k : ℕ) (r : CauseNumbers) : Type 0 where
-  pub numbers : CauseTells (numbersOfWhy (whyAnswer image t a k)) r
+pub record WhyTells (image t g a : List ℕ) (k : ℕ) (r : CauseNumbers) : Type 0 where
+  pub numbers : CauseTells (numbersOfWhy (whyAnswer image t g a k)) r
 
-pub record OrderTells (image t a list : List ℕ) (r : CountNumbers) (list′ : List ℕ) : Type 0 where
-  pub numbers : CountTells (numbersOfListed (orderAnswer image t a list)) r
-  pub entries : list′ ≡ orderList image t a list
+pub record OrderTells (image t g a list : List ℕ) (r : CountNumbers) (list′ : List ℕ) : Type 0 where
+  pub numbers : CountTells (numbersOfListed (orderAnswer image t g a list)) r
+  pub entries : list′ ≡ orderList image t g a list
 
-pub record NextTells (image t a fresh out : List ℕ) (r : CountNumbers) (out′ : List ℕ) : Type 0 where
-  pub numbers : CountTells (numbersOfNext (nextAnswer image t a fresh out)) r
-  pub bytes : out′ ≡ nextOut image t a fresh out
+pub record NextTells (image t g a fresh out : List ℕ) (r : CountNumbers) (out′ : List ℕ) : Type 0 where
+  pub numbers : CountTells (numbersOfNext (nextAnswer image t g a fresh out)) r
+  pub bytes : out′ ≡ nextOut image t g a fresh out
 
 -- of a text: a line's number is shown as far as 32 bits go, which only a sheet of 4 GiB and more passes
 abbrev pub lineShown : ℕ → ℕ

@@ -47,46 +47,54 @@ pub extern "C" fn sheetbendle_program_refusal(image: &[u8], number: usize) -> im
 }
 
 #[no_mangle]
-pub extern "C" fn sheetbendle_open(image: &[u8], table: &[u32], area: &mut [u32]) -> image::Refusal
-    ensures { λ r. ⌜ OpenTells (now (image .entry)) (now (table .entry)) (now (area .entry)) r (now (area .exit)) ⌝ }
+pub extern "C" fn sheetbendle_open(
+    image: &[u8],
+    table: &[u32],
+    guards: &[u32],
+    area: &mut [u32],
+) -> image::Refusal
+    ensures { λ r. ⌜ OpenTells (now (image .entry)) (now (table .entry)) (now (guards .entry)) (now (area .entry)) r (now (area .exit)) ⌝ }
 {
-    steps::open(image, table, area)
+    steps::open(image, table, guards, area)
 }
 
 #[no_mangle]
 pub extern "C" fn sheetbendle_gather(
     image: &[u8],
     table: &[u32],
+    guards: &[u32],
     area: &mut [u32],
     number: usize,
 ) -> numbers::StepNumbers
-    ensures { λ r. ⌜ GatherTells (now (image .entry)) (now (table .entry)) (now (area .entry)) number r (now (area .exit)) ⌝ }
+    ensures { λ r. ⌜ GatherTells (now (image .entry)) (now (table .entry)) (now (guards .entry)) (now (area .entry)) number r (now (area .exit)) ⌝ }
 {
-    numbers::of_gathered(steps::gather(image, table, area, number))
+    numbers::of_gathered(steps::gather(image, table, guards, area, number))
 }
 
 #[no_mangle]
 pub extern "C" fn sheetbendle_settle(
     image: &[u8],
     table: &mut [u32],
+    guards: &[u32],
     area: &mut [u32],
     number: usize,
 ) -> numbers::StepNumbers
-    ensures { λ r. ⌜ SettleTells (now (image .entry)) (now (table .entry)) (now (area .entry)) number r (now (table .exit)) (now (area .exit)) ⌝ }
+    ensures { λ r. ⌜ SettleTells (now (image .entry)) (now (table .entry)) (now (guards .entry)) (now (area .entry)) number r (now (table .exit)) (now (area .exit)) ⌝ }
 {
-    numbers::of_settled(steps::settle(image, table, area, number))
+    numbers::of_settled(steps::settle(image, table, guards, area, number))
 }
 
 #[no_mangle]
 pub extern "C" fn sheetbendle_why(
     image: &[u8],
     table: &[u32],
+    guards: &[u32],
     area: &[u32],
     number: usize,
 ) -> numbers::CauseNumbers
-    ensures { λ r. ⌜ WhyTells (now (image .entry)) (now (table .entry)) (now (area .entry)) number r ⌝ }
+    ensures { λ r. ⌜ WhyTells (now (image .entry)) (now (table .entry)) (now (guards .entry)) (now (area .entry)) number r ⌝ }
 {
-    numbers::of_why(causes::why(image, table, area, number))
+    numbers::of_why(causes::why(image, table, guards, area, number))
 }
 
 // The numbers of the listed order's answer.
@@ -107,12 +115,13 @@ fn of_listed(answer: listing::Listed) -> CountNumbers
 pub extern "C" fn sheetbendle_order(
     image: &[u8],
     table: &[u32],
+    guards: &[u32],
     area: &[u32],
     list: &mut [u32],
 ) -> CountNumbers
-    ensures { λ r. ⌜ OrderTells (now (image .entry)) (now (table .entry)) (now (area .entry)) (now (list .entry)) r (now (list .exit)) ⌝ }
+    ensures { λ r. ⌜ OrderTells (now (image .entry)) (now (table .entry)) (now (guards .entry)) (now (area .entry)) (now (list .entry)) r (now (list .exit)) ⌝ }
 {
-    of_listed(listing::order(image, table, area, list))
+    of_listed(listing::order(image, table, guards, area, list))
 }
 
 // The numbers of the next image's answer.
@@ -133,13 +142,14 @@ fn of_next(answer: carry::Next) -> CountNumbers
 pub extern "C" fn sheetbendle_next_image(
     image: &[u8],
     table: &[u32],
+    guards: &[u32],
     area: &[u32],
     fresh: &[u8],
     out: &mut [u8],
 ) -> CountNumbers
-    ensures { λ r. ⌜ NextTells (now (image .entry)) (now (table .entry)) (now (area .entry)) (now (fresh .entry)) (now (out .entry)) r (now (out .exit)) ⌝ }
+    ensures { λ r. ⌜ NextTells (now (image .entry)) (now (table .entry)) (now (guards .entry)) (now (area .entry)) (now (fresh .entry)) (now (out .entry)) r (now (out .exit)) ⌝ }
 {
-    of_next(carry::next_image(image, table, area, fresh, out))
+    of_next(carry::next_image(image, table, guards, area, fresh, out))
 }
 
 // A line's number as far as 32 bits show it.

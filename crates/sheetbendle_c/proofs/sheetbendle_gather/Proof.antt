@@ -5,7 +5,7 @@ use Rattle.sheetbendle_c.proofs.sheetbendle_gather.Statement.{statement
 use Rattle.sheetbendle_c.proofs.sheetbendle_gather.Tie as tie
 
 returns : tie.Need-returns
-returns c = gather-tells _ _ _ _ _ _ _ (c .before .before .before .gather .ensures) (c .of-gathered .ensures)
+returns c = gather-tells _ _ _ _ _ _ _ _ (c .before .before .before .gather .ensures) (c .of-gathered .ensures)
 
 pub sheetbendle-gather-spec : {M : Type 1} → statement M
 sheetbendle-gather-spec =

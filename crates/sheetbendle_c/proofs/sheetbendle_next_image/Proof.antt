@@ -5,10 +5,10 @@ use Rattle.sheetbendle_c.proofs.sheetbendle_next_image.Statement.{state
 use Rattle.sheetbendle_c.proofs.sheetbendle_next_image.Tie as tie
 
 of-next-requires : tie.Need-of-next-requires
-of-next-requires c κs = next-small _ _ _ _ _ _ _ (c .before .before .next-image .ensures)
+of-next-requires c κs = next-small _ _ _ _ _ _ _ _ (c .before .before .next-image .ensures)
 
 returns : tie.Need-returns
-returns c = next-tells _ _ _ _ _ _ _ _ (c .before .before .before .next-image .ensures) (c .of-next .ensures)
+returns c = next-tells _ _ _ _ _ _ _ _ _ (c .before .before .before .next-image .ensures) (c .of-next .ensures)
 
 pub sheetbendle-next-image-spec : {M : Type 1} → statement M
 sheetbendle-next-image-spec =

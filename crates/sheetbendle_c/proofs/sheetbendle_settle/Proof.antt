@@ -5,7 +5,7 @@ use Rattle.sheetbendle_c.proofs.sheetbendle_settle.Statement.{statement
 use Rattle.sheetbendle_c.proofs.sheetbendle_settle.Tie as tie
 
 returns : tie.Need-returns
-returns c = settle-tells _ _ _ _ _ _ _ _ (c .before .before .before .before .before .settle .ensures) (c .of-settled .ensures)
+returns c = settle-tells _ _ _ _ _ _ _ _ _ (c .before .before .before .before .before .settle .ensures) (c .of-settled .ensures)
 
 pub sheetbendle-settle-spec : {M : Type 1} → statement M
 sheetbendle-settle-spec =

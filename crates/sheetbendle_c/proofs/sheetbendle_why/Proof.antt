@@ -5,7 +5,7 @@ use Rattle.sheetbendle_c.proofs.sheetbendle_why.Statement.{statement}
 use Rattle.sheetbendle_c.proofs.sheetbendle_why.Tie as tie
 
 returns : tie.Need-returns
-returns c = why-tells _ _ _ _ _ _ (c .before .why .ensures) (c .of-why .ensures)
+returns c = why-tells _ _ _ _ _ _ _ (c .before .why .ensures) (c .of-why .ensures)
 
 pub sheetbendle-why-spec : {M : Type 1} → statement M
 sheetbendle-why-spec = tie.close (tie.spec (λ c κs. search needs) (λ c κs. search needs) returns)
