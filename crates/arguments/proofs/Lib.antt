@@ -1,4 +1,4 @@
 pub mod Said
-pub mod Long
+pub mod Readings
 pub mod Cases
 pub mod Unique

@@ -1,2 +1,4 @@
+pub mod Kinds
+pub mod Readings
 pub mod Words
 pub mod Opened

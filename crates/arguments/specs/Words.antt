@@ -1,31 +1,56 @@
--- What the program `cells` says where it writes nothing: the words of one line, behind the program's name. Assumes nothing.
-use Prim.Native.Nat.{ℕ, _+_, min}
+-- What the programs `cells` and `guards` say where they write nothing: the words of one line, behind the program's name. Assumes nothing.
+use Prim.Native.Nat.{ℕ, _+_, _/_, _%_, min}
 use mathlib.Core.Path.{_≡_}
-use mathlib.Core.Bool.{cond, _&&_}
+use mathlib.Core.Bool.{Bool, cond, _&&_}
 use mathlib.Core.List.{List, [], _∷_, _++_}
-use lib.Dec.{leb}
+use lib.Dec.{eqb, leb}
 use lib.ListN.{length, getD, set}
 use Rattle.text.specs.Ascii.{ascii}
-use Rattle.text.specs.declared.Numeral.{Numeral}
-use Rattle.text.specs.declared.Numeral.the-variants.{Number, TooLarge, NoNumber}
-use Rattle.text.specs.Decimal.{decimal, numeral}
+use Rattle.text.specs.Decimal.{decimal}
 use Rattle.text.specs.Filled.{filled, texts}
 use Rattle.text.specs.Writing.{PageSays}
 use Rattle.image.specs.Limits.{minCells, maxCells}
+use Rattle.guard.specs.Signed.{lowest}
+use Rattle.arguments.specs.declared.Kind.{Kind}
+use Rattle.arguments.specs.declared.Kind.the-variants.{Cells, Ends}
+use Rattle.arguments.specs.declared.Reading.{Reading}
+use Rattle.arguments.specs.declared.Reading.the-variants.{Word, Over, Under, NoWord}
+use Rattle.arguments.specs.Kinds.{perCell, mostArguments, largest}
+use Rattle.arguments.specs.Readings.{reading}
 
--- document 01, "Sizes": "Cells and registers hold 0 to 4294967295."
-abbrev pub largestCell : ℕ
-largestCell = 4294967295
+-- ---- how many there are: none at all, over 256 cells, and a low end without its high one
 
--- ---- how many there are: none at all, and over 256
+abbrev pub noneText : Kind → List ℕ
+noneText Cells = ascii "give the table's cells, # to # numbers"
+noneText Ends = ascii "give the low end and the high end of each cell, # to # pairs"
 
-unfoldable pub noneWords : List ℕ
-noneWords = filled (ascii "give the table's cells, # to # numbers") (minCells ∷ maxCells ∷ [])
+unfoldable pub noneWords : Kind → List ℕ
+noneWords kind = filled (noneText kind) (minCells ∷ maxCells ∷ [])
 
-unfoldable pub manyWords : (count : ℕ) → List ℕ
-manyWords count = decimal count ++ filled (ascii " cells, and a table has at most #") (maxCells ∷ [])
+-- so many of a kind
+abbrev pub noun : Kind → List ℕ
+noun Cells = ascii " cells"
+noun Ends = ascii " ends"
 
--- ---- one of them is no number, or too large a one
+unfoldable pub counted : Kind → (count : ℕ) → List ℕ
+counted kind count = decimal count ++ noun kind
+
+unfoldable pub manyWords : Kind → (count : ℕ) → List ℕ
+manyWords kind count = counted kind count ++ filled (ascii ", and a table has at most #") (mostArguments kind ∷ [])
+
+-- cells are numbered from 0
+unfoldable pub oddWords : (count : ℕ) → List ℕ
+oddWords count = filled (ascii "the last cell, number #, has no high end") (count / perCell Ends ∷ [])
+
+-- nothing is said of a number of arguments that is good
+unfoldable pub wholeCells : Kind → (count : ℕ) → Bool
+wholeCells kind count = eqb (count % perCell kind) 0
+
+unfoldable pub countWords : Kind → (count : ℕ) → List ℕ
+countWords kind count =
+    cond (eqb count 0) (noneWords kind) (cond (leb count (mostArguments kind)) (cond (wholeCells kind count) [] (oddWords count)) (manyWords kind count))
+
+-- ---- one of them is no number, or one that is too large or too small
 
 -- a byte that is no letter, digit or sign of ASCII is shown as a question mark, so that any argument is one line
 unfoldable pub shownByte : ℕ → ℕ
@@ -41,31 +66,40 @@ mostShown = 40
 unfoldable pub shownWord : List ℕ → List ℕ
 shownWord word = texts (byteOf word) (min (length word) mostShown) ++ cond (leb (length word) mostShown) [] (ascii "...")
 
-unfoldable pub noNumberWords : (place : ℕ) (word : List ℕ) → List ℕ
-noNumberWords place word = filled (ascii "argument # is no number: ") (place ∷ []) ++ shownWord word
+-- a text with numbers in it, and behind it the argument
+unfoldable pub about : (text numbers word : List ℕ) → List ℕ
+about text numbers word = filled text numbers ++ shownWord word
 
-unfoldable pub tooLargeWords : (place : ℕ) (word : List ℕ) → List ℕ
-tooLargeWords place word = filled (ascii "argument # is over #: ") (place ∷ largestCell ∷ []) ++ shownWord word
+-- of the argument at a place, from 1
+unfoldable pub overWords : Kind → (place : ℕ) (word : List ℕ) → List ℕ
+overWords kind place word = about (ascii "argument # is over #: ") (place ∷ largest kind ∷ []) word
+
+unfoldable pub underWords : (place : ℕ) (word : List ℕ) → List ℕ
+underWords place word = about (ascii "argument # is under -#: ") (place ∷ lowest ∷ []) word
+
+unfoldable pub noNumberWords : (place : ℕ) (word : List ℕ) → List ℕ
+noNumberWords place word = about (ascii "argument # is no number: ") (place ∷ []) word
+
+-- by what word it is: nothing is said of one that is a word
+unfoldable pub argumentWords : Kind → Reading → (place : ℕ) (word : List ℕ) → List ℕ
+argumentWords kind (Word w) place word = []
+argumentWords kind Over place word = overWords kind place word
+argumentWords kind Under place word = underWords place word
+argumentWords kind NoWord place word = noNumberWords place word
 
 -- none of these has more bytes
 abbrev pub mostWords : ℕ
 mostWords = 100
 
--- ---- an argument as cell c of a table, by what number it is
+-- ---- an argument as word k of a list
 
--- nothing is said of a number; places are from 1
-unfoldable pub cellWords : Numeral → (c : ℕ) (word : List ℕ) → List ℕ
-cellWords (Number n) c word = []
-cellWords TooLarge c word = tooLargeWords (c + 1) word
-cellWords NoNumber c word = noNumberWords (c + 1) word
+unfoldable pub withWord : Reading → (list : List ℕ) (k : ℕ) → List ℕ
+withWord (Word w) l k = set l k w
+withWord Over l k = l
+withWord Under l k = l
+withWord NoWord l k = l
 
--- and the number goes there
-unfoldable pub withCell : Numeral → (table : List ℕ) (c : ℕ) → List ℕ
-withCell (Number n) t c = set t c n
-withCell TooLarge t c = t
-withCell NoNumber t c = t
-
--- The contract of the call that takes an argument as a cell: what is said, if anything, and the table.
-pub record CellSays (word : List ℕ) (c : ℕ) (t out : List ℕ) (r : ℕ) (t′ out′ : List ℕ) : Type 0 where
-  pub words : PageSays (cellWords (numeral largestCell word) c word) out r out′
-  pub table : t′ ≡ withCell (numeral largestCell word) t c
+-- The contract of the call that takes an argument as a word: what is said, if anything, and the list.
+pub record ArgumentSays (kind : Kind) (word : List ℕ) (k : ℕ) (l out : List ℕ) (r : ℕ) (l′ out′ : List ℕ) : Type 0 where
+  pub words : PageSays (argumentWords kind (reading kind word) (k + 1) word) out r out′
+  pub list : l′ ≡ withWord (reading kind word) l k

@@ -1,11 +1,11 @@
-// What stands before the image in a batch's input (document 01, "Bench sheet"): T in two bytes and T cells of four, low byte first.
+// What stands before the image in a batch's input (document 01, "Bench sheet"): T in two bytes and T cells of four, low byte first. And the guards of a table
+// (document 02, ask 5): four bytes for each end, low byte first.
 ghost use mathlib.Core.Path.{_≡_};
-ghost use Prim.Native.Nat.{_+_, _≤_};
+ghost use Prim.Native.Nat.{_+_, _*_, _≤_};
 ghost use lib.ListN.{length, replicate};
-ghost use Rattle.text.specs.Filled.{texts};
 ghost use Rattle.text.specs.Writing.{Wrote, Room, PageSays};
 ghost use Rattle.image.specs.Limits.{maxCells};
-ghost use Rattle.prefix.specs.Prefix.{two, four, cellAt, prefix, prefixBytes};
+ghost use Rattle.prefix.specs.Prefix.{two, four, fours, prefix, prefixBytes, guardBytes};
 
 // The bytes of the longest prefix.
 const MOST: usize = 2 + 4 * image::Image::CELLS;
@@ -26,8 +26,8 @@ fn put_two(out: &mut [u8], at: usize, n: u32) -> usize
     text::put_byte(out, next, (n / 256 % 256) as u8)
 }
 
-// A cell: four bytes, low first.
-fn put_cell(out: &mut [u8], at: usize, n: u32) -> usize
+// A number of 32 bits: four bytes, low first.
+fn put_four(out: &mut [u8], at: usize, n: u32) -> usize
     requires { ⌜ at + 4 ≤ length (now out) ⌝ }
     ensures { λ r. ⌜ Wrote (now (out .entry)) at (four n) (now (out .exit)) r ⌝ }
 {
@@ -35,15 +35,15 @@ fn put_cell(out: &mut [u8], at: usize, n: u32) -> usize
     put_two(out, next, n / 65536)
 }
 
-// The cells of a table.
-fn put_cells(out: &mut [u8], at: usize, cells: &[u32]) -> usize
-    requires { ⌜ Room (now out) at (texts (cellAt (now cells)) (length (now cells))) ⌝ }
-    ensures { λ r. ⌜ Wrote (now (out .entry)) at (texts (cellAt (now (cells .entry))) (length (now (cells .entry)))) (now (out .exit)) r ⌝ }
+// Words, one behind the other.
+fn put_fours(out: &mut [u8], at: usize, words: &[u32]) -> usize
+    requires { ⌜ Room (now out) at (fours (now words)) ⌝ }
+    ensures { λ r. ⌜ Wrote (now (out .entry)) at (fours (now (words .entry))) (now (out .exit)) r ⌝ }
 {
-    let n = cells.len();
+    let n = words.len();
     let mut to = at;
     for c in 0..n {
-        to = put_cell(out, to, cells[c]);
+        to = put_four(out, to, words[c]);
     }
     to
 }
@@ -54,5 +54,23 @@ pub fn put_prefix(out: &mut [u8], cells: &[u32]) -> usize
     ensures { λ r. ⌜ PageSays (prefix (now (cells .entry))) (now (out .entry)) r (now (out .exit)) ⌝ }
 {
     let next = put_two(out, 0, cells.len() as u32);
-    put_cells(out, next, cells)
+    put_fours(out, next, cells)
+}
+
+// The bytes of the most guards.
+const MOST_GUARDS: usize = 4 * guard::ENDS * image::Image::CELLS;
+
+// Room for the guards of every table.
+pub fn guards_room() -> [u8; MOST_GUARDS]
+    ensures { λ r. ⌜ (guardBytes maxCells ≡ length r) × (r ≡ replicate (guardBytes maxCells) 0) ⌝ }
+{
+    [0; MOST_GUARDS]
+}
+
+// The guards of a table, at the front of what is lent.
+pub fn put_guards(out: &mut [u8], guards: &[u32]) -> usize
+    requires { ⌜ 4 * length (now guards) ≤ length (now out) ⌝ }
+    ensures { λ r. ⌜ PageSays (fours (now (guards .entry))) (now (out .entry)) r (now (out .exit)) ⌝ }
+{
+    put_fours(out, 0, guards)
 }

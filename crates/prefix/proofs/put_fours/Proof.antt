@@ -1,4 +1,4 @@
--- The loop's invariant: the cells below c stand there. The measure is what is left of them. Assumes nothing.
+-- The loop's invariant: the words below c stand there. The measure is what is left of them. Assumes nothing.
 use mathlib.Core.Path.{_≡_}
 use Prim.Native.Nat.{_≤_, _-_}
 use lib.ListN.{length}
@@ -9,27 +9,27 @@ use Rattle.text.specs.Writing.{Wrote}
 use Rattle.text.proofs.Writing.{wrote-none}
 use Rattle.text.proofs.Fillings.{texts-none, text-room, text-turn}
 use Rattle.prefix.specs.Prefix.{cellAt}
-use Rattle.prefix.proofs.put_cells.Statement.{statement}
-use Rattle.prefix.proofs.put_cells.Tie as tie
+use Rattle.prefix.proofs.put_fours.Statement.{statement}
+use Rattle.prefix.proofs.put_fours.Tie as tie
 
 abbrev Inv-loop : tie.InvT-loop
-Inv-loop out₀ at cells n to₀ c₀ out to c = (c ≤ n) × Wrote out₀ at (texts (cellAt cells) c) out to
+Inv-loop out₀ at words n to₀ c₀ out to c = (c ≤ n) × Wrote out₀ at (texts (cellAt words) c) out to
 
 abbrev μ-loop : tie.MeasureT-loop
-μ-loop out₀ at cells n to₀ c₀ out to c = n - c
+μ-loop out₀ at words n to₀ c₀ out to c = n - c
 
 abbrev start-of : tie.At-loop Inv-loop μ-loop → tie.Start Inv-loop μ-loop
 start-of c = c .before .before .before
 
 loop-holds : tie.Need-loop-holds Inv-loop μ-loop
-loop-holds c = let a = c .before .before .args in (omega arith, rw (texts-none (cellAt (a .cells .now))) (wrote-none (a .out .now) (a .at)))
+loop-holds c = let a = c .before .before .args in (omega arith, rw (texts-none (cellAt (a .words .now))) (wrote-none (a .out .now) (a .at)))
 
-put-cell-requires : tie.Need-put-cell-requires Inv-loop μ-loop
+put-four-requires : tie.Need-put-four-requires Inv-loop μ-loop
 unfolding cellAt
-put-cell-requires c κs =
+put-four-requires c κs =
     let l = c .before .before .before in
     let s = start-of l in
-    text-room (cellAt (s .args .cells .now)) (omega arith) (l .loop .inv .1) (s .pre) .fits
+    text-room (cellAt (s .args .words .now)) (omega arith) (l .loop .inv .1) (s .pre) .fits
 
 loop-again : tie.Need-loop-again Inv-loop μ-loop
 unfolding cellAt
@@ -37,16 +37,16 @@ loop-again c =
     let u = c .before .before in
     let l = u .before .before .before .before in
     let s = start-of l in
-    (search needs, text-turn (cellAt (s .args .cells .now)) (omega arith) (l .loop .inv .1) (s .pre) (u .put-cell .ensures))
+    (search needs, text-turn (cellAt (s .args .words .now)) (omega arith) (l .loop .inv .1) (s .pre) (u .put-four .ensures))
 
 returns : tie.Need-returns Inv-loop μ-loop
 returns c =
     let l = c .before in
-    let e : l .loop .c ≡ length (start-of l .args .cells .now) = omega arith in
+    let e : l .loop .c ≡ length (start-of l .args .words .now) = omega arith in
     rw e at (l .loop .inv .1)
 
-pub put-cells-spec : {M : Type 1} → statement M
-put-cells-spec =
+pub put-fours-spec : {M : Type 1} → statement M
+put-fours-spec =
     tie.close
     (tie.spec
     Inv-loop
@@ -54,7 +54,7 @@ put-cells-spec =
     loop-holds
     (λ c. search needs)
     (λ c. search needs)
-    put-cell-requires
+    put-four-requires
     (λ c. search needs)
     (λ c. search needs)
     loop-again

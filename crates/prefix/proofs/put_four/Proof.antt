@@ -1,8 +1,8 @@
 -- The 16 low bits, and behind them the 16 high ones. Assumes nothing.
 use borrow.Author.Needs.{needs}
 use Rattle.text.proofs.Writing.{wrote-both}
-use Rattle.prefix.proofs.put_cell.Statement.{statement}
-use Rattle.prefix.proofs.put_cell.Tie as tie
+use Rattle.prefix.proofs.put_four.Statement.{statement}
+use Rattle.prefix.proofs.put_four.Tie as tie
 
 returns : tie.Need-returns
 returns c =
@@ -10,5 +10,5 @@ returns c =
     let p = q .before .before .before .before in
     wrote-both _ _ (record { fits = p .before .before .before .pre }) (p .put-two .ensures) (q .put-two2 .ensures)
 
-pub put-cell-spec : {M : Type 1} → statement M
-put-cell-spec = tie.close (tie.spec (λ c κs. search needs) (λ c κs. search needs) (λ c. search needs) returns)
+pub put-four-spec : {M : Type 1} → statement M
+put-four-spec = tie.close (tie.spec (λ c κs. search needs) (λ c κs. search needs) (λ c. search needs) returns)
