@@ -1,4 +1,5 @@
 pub mod Pages
+pub mod GuardFaults
 pub mod Short
 pub mod Unique
 pub mod Cases

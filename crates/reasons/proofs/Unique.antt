@@ -13,5 +13,5 @@ use Rattle.reasons.proofs.put_reasons.Reads as put-reasons
 pub page-room-unique : Unique {A = List ℕ} 0 page-room-kinds.ps page-room-kinds.r (λ κs x s. x) page-room.Post
 page-room-unique κs a x y s t p q = p .1 ∙ sym (q .1)
 
-pub put-reasons-unique : Unique {A = ℕ × List ℕ} 4 put-reasons-kinds.ps put-reasons-kinds.r (λ κs x s. (x, now (s .0))) put-reasons.Post
+pub put-reasons-unique : Unique {A = ℕ × List ℕ} 6 put-reasons-kinds.ps put-reasons-kinds.r (λ κs x s. (x, now (s .0))) put-reasons.Post
 put-reasons-unique κs a x y s t p q = cc

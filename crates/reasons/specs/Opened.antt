@@ -3,8 +3,8 @@ use Rattle.base.specs.Words.{count}
 use Rattle.causes.specs.Opened as causes
 use Rattle.refused.specs.Opened as refused
 use Rattle.sentences.specs.Opened as sentences
-use Rattle.reasons.specs.Reasons.{committedText, againText, carriedText, faultedText, placeOf, programText, reasonsText}
+use Rattle.reasons.specs.Reasons.{committedText, againText, carriedText, faultedText, guardFaulted, guardText, placeOf, endedText, programText, reasonsText}
 
 unfoldable pub opened : Unit {0}
-unfolding count causes.opened refused.opened sentences.opened committedText againText carriedText faultedText placeOf programText reasonsText
+unfolding count causes.opened refused.opened sentences.opened committedText againText carriedText faultedText guardFaulted guardText placeOf endedText programText reasonsText
 opened = tt

@@ -2,11 +2,12 @@
 -- Assumes nothing.
 use Prim.Native.Nat.{ℕ}
 use mathlib.Core.Path.{_≡_, refl}
-use mathlib.Core.List.{[], _∷_, _++_}
+use mathlib.Core.List.{[], _∷_, _++_, map}
 use Rattle.text.specs.Ascii.{ascii}
+use Rattle.machine.specs.declared.Store.{Store}
 use Rattle.causes.specs.declared.answers.Cause.{Cause}
-use Rattle.sentences.specs.Sentences.{free, turned, waw, raw, rawWithWar, again, rejected, loadFault, storeFault}
-use Rattle.sentences.specs.Sentences.{committedLine, wawLine, rawLine, rawWithWarLine, rejectedLine, loadFaultLine, storeFaultLine}
+use Rattle.sentences.specs.Sentences.{free, turned, waw, raw, rawWithWar, again, rejected, loadFault, storeFault, signedText, guardFault}
+use Rattle.sentences.specs.Sentences.{committedLine, wawLine, rawLine, rawWithWarLine, rejectedLine, loadFaultLine, storeFaultLine, guardFaultLine}
 use Rattle.sentences.specs.Opened.{opened}
 
 abbrev at : (cell program : ℕ) → Cause
@@ -21,6 +22,7 @@ script-lines : committedLine 63
     ∷ rejectedLine 12 7
     ∷ loadFaultLine 12 31
     ∷ storeFaultLine 12 31
+    ∷ guardFaultLine 12 31
     ∷ []
     ≡ ascii "63 committed\n"
     ∷ ascii "12 carried waw cell 255 program 3\n"
@@ -29,6 +31,7 @@ script-lines : committedLine 63
     ∷ ascii "12 rejected code 7\n"
     ∷ ascii "12 faulted load at 31\n"
     ∷ ascii "12 faulted store at 31\n"
+    ∷ ascii "12 faulted guard at 31\n"
     ∷ []
 unfolding opened
 script-lines = refl
@@ -93,3 +96,28 @@ says-store-fault : storeFault 12 31 5
     ++ ascii "  It stores nothing, reserves nothing and is not carried.\n"
 unfolding opened
 says-store-fault = refl
+
+-- ---- "read as a signed 32-bit number": around 0, and around the two ends
+
+says-signed : map signedText (0 ∷ 1 ∷ 2147483647 ∷ 2147483648 ∷ 2147483649 ∷ 4294967295 ∷ [])
+    ≡ ascii "0" ∷ ascii "1" ∷ ascii "2147483647" ∷ ascii "-2147483648" ∷ ascii "-2147483647" ∷ ascii "-1" ∷ []
+unfolding opened
+says-signed = refl
+
+abbrev storing : (cell value : ℕ) → Store
+storing cell value = record { cell = cell; value = value }
+
+-- 46 to a heater that must stay between -20 and 45, and -21
+says-guard-fault : guardFault 12 31 (storing 5 46) 4294967276 45
+    ≡ ascii "12 faulted guard at 31\n"
+    ++ ascii "  Its instruction 31, counted from 0, stores 46 to cell 5, whose guard asks for at least -20 and at most 45.\n"
+    ++ ascii "  It stores nothing, reserves nothing and is not carried.\n"
+unfolding opened
+says-guard-fault = refl
+
+says-too-low : guardFault 0 3 (storing 255 4294967275) 4294967276 45
+    ≡ ascii "0 faulted guard at 3\n"
+    ++ ascii "  Its instruction 3, counted from 0, stores -21 to cell 255, whose guard asks for at least -20 and at most 45.\n"
+    ++ ascii "  It stores nothing, reserves nothing and is not carried.\n"
+unfolding opened
+says-too-low = refl

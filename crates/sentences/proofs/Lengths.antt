@@ -1,15 +1,20 @@
--- How long a sentence is whose numbers have 32 bits: none is longer than that of reason 3. The lengths of the texts are computed. Assumes nothing.
+-- How long a sentence is whose numbers have 32 bits, so that one with a sign has at most 11 characters: none is longer than that of reason 3. The lengths
+-- of the texts are computed. Assumes nothing.
 use Prim.Native.Nat.{ℕ, _+_, _*_, _≤_, _<_}
 use mathlib.Core.Bool.{Bool, true, false, cond}
-use mathlib.Core.List.{List, _++_}
+use mathlib.Core.List.{List, [], _∷_, _++_}
 use native.Mathlib.Omega.{arith}
 use lib.Dec.{eqb}
 use lib.ListN.{length, length-append}
+use Rattle.text.specs.Ascii.{ascii}
 use Rattle.text.specs.Filled.{filled}
 use Rattle.text.proofs.Fillings.{Words, filled-short}
+use Rattle.machine.specs.declared.Store.{Store}
 use Rattle.causes.specs.declared.answers.Cause.{Cause}
-use Rattle.sentences.specs.Sentences.{committedLine, wawLine, rawLine, rawWithWarLine, rejectedLine, loadFaultLine, storeFaultLine}
+use Rattle.sentences.specs.Sentences.{committedLine, wawLine, rawLine, rawWithWarLine, rejectedLine, loadFaultLine, storeFaultLine, guardFaultLine}
 use Rattle.sentences.specs.Sentences.{free, turned, waw, raw, rawWithWar, moreBatches, again, rejected, loadFault, storeFault, longestReason, longestAgain}
+use Rattle.sentences.specs.Sentences.{thenSigned, notAdmitted, guardFault}
+use Rattle.sentences.proofs.Signs.{signed-short}
 
 abbrev pub Small : ℕ → Type 0
 Small n = n < 4294967296
@@ -76,3 +81,29 @@ more-short batches b = either-short _ _ (omega arith) _ (eqb batches 1) (16 + 10
 pub again-short : (place batches : ℕ) → Small place → Small batches → length (again place batches) ≤ longestAgain
 unfolding again
 again-short place batches p b = then-short _ _ (omega arith) (87 + 10) (omega arith) _ (16 + 10) (more-short batches b)
+
+-- a store that a guard did not admit
+then-signed-short : (s ns : List ℕ) (w : ℕ) → Words ns → Small w → length (thenSigned s ns w) ≤ length s + 10 * length ns + 11
+unfolding thenSigned
+then-signed-short s ns w h k = rw length-append (omega (arith, filled-short s ns h, signed-short w k))
+
+pub guard-fault-short : (k place : ℕ) (store : Store) (low high : ℕ) → Small k → Small place → Small (store .cell) → Small (store .value) → Small low → Small high
+    → length (guardFault k place store low high) ≤ longestReason
+unfolding guardFault guardFaultLine notAdmitted
+guard-fault-short k place store low high h p c v l g =
+    let line : List ℕ = filled (ascii "# faulted guard at #\n") (k ∷ place ∷ []) in
+    let value : List ℕ = thenSigned (ascii "  Its instruction #, counted from 0, stores ") (place ∷ []) (store .value) in
+    let least : List ℕ = thenSigned (ascii " to cell #, whose guard asks for at least ") (store .cell ∷ []) low in
+    let most : List ℕ = thenSigned (ascii " and at most ") [] high in
+    let rest : List ℕ = ascii ".\n  It stores nothing, reserves nothing and is not carried.\n" in
+    omega (
+      arith,
+      length-append line (value ++ least ++ most ++ rest),
+      length-append (value ++ least ++ most) rest,
+      length-append (value ++ least) most,
+      length-append value least,
+      filled-short (ascii "# faulted guard at #\n") (k ∷ place ∷ []) (h, (p, tt)),
+      then-signed-short (ascii "  Its instruction #, counted from 0, stores ") (place ∷ []) (store .value) (p, tt) v,
+      then-signed-short (ascii " to cell #, whose guard asks for at least ") (store .cell ∷ []) low (c, tt) l,
+      then-signed-short (ascii " and at most ") [] high tt g,
+    )

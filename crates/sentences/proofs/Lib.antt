@@ -1,3 +1,4 @@
+pub mod Signs
 pub mod Lengths
 pub mod Unique
 pub mod Cases

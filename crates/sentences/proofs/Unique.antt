@@ -22,6 +22,8 @@ use Rattle.sentences.proofs.put_load_fault.Kinds as put-load-fault-kind
 use Rattle.sentences.proofs.put_load_fault.Reads as put-load-fault
 use Rattle.sentences.proofs.put_store_fault.Kinds as put-store-fault-kinds
 use Rattle.sentences.proofs.put_store_fault.Reads as put-store-fault
+use Rattle.sentences.proofs.put_guard_fault.Kinds as put-guard-fault-kinds
+use Rattle.sentences.proofs.put_guard_fault.Reads as put-guard-fault
 
 pub put-free-unique : Unique {A = ℕ × List ℕ} 1 put-free-kinds.ps put-free-kinds.r (λ κs x s. (x, now (s .0))) put-free.Post
 put-free-unique κs a x y s t p q = cc
@@ -49,3 +51,6 @@ put-load-fault-unique κs a x y s t p q = cc
 
 pub put-store-fault-unique : Unique {A = ℕ × List ℕ} 1 put-store-fault-kinds.ps put-store-fault-kinds.r (λ κs x s. (x, now (s .0))) put-store-fault.Post
 put-store-fault-unique κs a x y s t p q = cc
+
+pub put-guard-fault-unique : Unique {A = ℕ × List ℕ} 1 put-guard-fault-kinds.ps put-guard-fault-kinds.r (λ κs x s. (x, now (s .0))) put-guard-fault.Post
+put-guard-fault-unique κs a x y s t p q = cc

@@ -1,11 +1,15 @@
--- What is said of a program that has ended (document 02, ask 3): a line that a script reads, and behind it why, in words. Each text stands here as it is
+-- What is said of a program that has ended (document 02, asks 3 and 5): a line that a script reads, and behind it why, in words. Each text stands here as it is
 -- printed; each # in it is the next of the numbers behind it. An arrow A -> B says that A has to run after B. Assumes nothing.
 use Prim.Native.Nat.{ℕ, _+_, _*_}
 use mathlib.Core.Bool.{cond}
 use mathlib.Core.List.{List, [], _∷_, _++_}
 use lib.Dec.{eqb}
+use lib.IntN.{ℤ, pos, negsuc}
 use Rattle.text.specs.Ascii.{ascii}
+use Rattle.text.specs.Decimal.{decimal}
 use Rattle.text.specs.Filled.{filled}
+use Rattle.guard.specs.Signed.{signed}
+use Rattle.machine.specs.declared.Store.{Store}
 use Rattle.causes.specs.declared.answers.Cause.{Cause}
 
 -- ---- what a script reads: one line for each program, which begins with its number
@@ -31,6 +35,9 @@ loadFaultLine number place = filled (ascii "# faulted load at #\n") (number ∷ 
 
 unfoldable pub storeFaultLine : (number place : ℕ) → List ℕ
 storeFaultLine number place = filled (ascii "# faulted store at #\n") (number ∷ place ∷ [])
+
+unfoldable pub guardFaultLine : (number place : ℕ) → List ℕ
+guardFaultLine number place = filled (ascii "# faulted guard at #\n") (number ∷ place ∷ [])
 
 -- ---- a program that has committed, with the words behind its line
 
@@ -102,6 +109,32 @@ storeFault number place last =
     ascii "  Its instruction #, counted from 0, stores to a cell outside the table, whose last cell is #.\n"
     ++ ascii "  It stores nothing, reserves nothing and is not carried.\n"
     ) (place ∷ last ∷ [])
+
+-- ---- a program that stores a value which the cell's guard does not admit (document 02, ask 5)
+
+-- an integer in decimal: a minus and then the digits where it is negative
+unfoldable pub integer : ℤ → List ℕ
+integer (pos n) = decimal n
+integer (negsuc n) = ascii "-" ++ decimal (n + 1)
+
+-- a word as such, "read as a signed 32-bit number"
+unfoldable pub signedText : (word : ℕ) → List ℕ
+signedText word = integer (signed word)
+
+-- a text with numbers in it, and behind it such a word
+unfoldable pub thenSigned : (text numbers : List ℕ) (word : ℕ) → List ℕ
+thenSigned text numbers word = filled text numbers ++ signedText word
+
+-- which value it stores to which cell, and what "low" and "high" of that cell's guard are
+unfoldable pub notAdmitted : (place : ℕ) → Store → (low high : ℕ) → List ℕ
+notAdmitted place store low high =
+    thenSigned (ascii "  Its instruction #, counted from 0, stores ") (place ∷ []) (store .value)
+    ++ thenSigned (ascii " to cell #, whose guard asks for at least ") (store .cell ∷ []) low
+    ++ thenSigned (ascii " and at most ") [] high
+    ++ ascii ".\n  It stores nothing, reserves nothing and is not carried.\n"
+
+unfoldable pub guardFault : (number place : ℕ) → Store → (low high : ℕ) → List ℕ
+guardFault number place store low high = guardFaultLine number place ++ notAdmitted place store low high
 
 -- ---- the most bytes of what is said of one program, where each number has at most 10 digits: of all that is said, the line and the words of reason 3
 -- are the longest, and what comes of the program stands behind them

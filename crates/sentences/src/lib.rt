@@ -1,9 +1,10 @@
-// What is said of a program that has ended (document 02, ask 3): a line that a script can read, and behind it why, in words. In each text a # is the next of
-// the numbers behind it.
+// What is said of a program that has ended (document 02, asks 3 and 5): a line that a script can read, and behind it why, in words. In each text a # is the
+// next of the numbers behind it.
 ghost use mathlib.Core.List.{_++_};
 ghost use Rattle.text.specs.Filled.{filled};
 ghost use Rattle.text.specs.Writing.{Wrote, Room};
 ghost use Rattle.sentences.specs.Sentences.{free, turned, waw, raw, rawWithWar, moreBatches, again, rejected, loadFault, storeFault};
+ghost use Rattle.sentences.specs.Sentences.{signedText, thenSigned, notAdmitted, guardFault};
 
 // The most bytes of what is said of one program, where each number has at most 10 digits: the line and the words of reason 3, and behind them what comes of
 // the program.
@@ -193,4 +194,79 @@ pub fn put_store_fault(out: &mut [u8], at: usize, number: u32, place: u32, last:
           It stores nothing, reserves nothing and is not carried.\n",
         &[place, last],
     )
+}
+
+// 2^32: a word that is a negative number is so much less.
+const WORDS: u64 = 4294967296;
+
+// A word read as a signed number, in decimal: a minus stands before the digits of a negative one.
+fn put_signed(out: &mut [u8], at: usize, word: u32) -> usize
+    requires { ⌜ Room (now out) at (signedText word) ⌝ }
+    ensures { λ r. ⌜ Wrote (now (out .entry)) at (signedText word) (now (out .exit)) r ⌝ }
+{
+    if word < guard::LOWEST {
+        return text::put_decimal(out, at, word as u64);
+    }
+    let next = text::put_byte(out, at, b'-');
+    text::put_decimal(out, next, WORDS - word as u64)
+}
+
+// A text with numbers in it, and behind it a word read as a signed number.
+fn put_then_signed(out: &mut [u8], at: usize, text: &[u8], numbers: &[u32], word: u32) -> usize
+    requires { ⌜ Room (now out) at (thenSigned (now text) (now numbers) word) ⌝ }
+    ensures { λ r. ⌜ Wrote (now (out .entry)) at (thenSigned (now (text .entry)) (now (numbers .entry)) word) (now (out .exit)) r ⌝ }
+{
+    let next = text::put_filled(out, at, text, numbers);
+    put_signed(out, next, word)
+}
+
+// The words of a store that a guard did not admit: the value, the cell, and the guard's two ends.
+fn put_not_admitted(
+    out: &mut [u8],
+    at: usize,
+    place: u32,
+    store: machine::Store,
+    low: u32,
+    high: u32,
+) -> usize
+    requires { ⌜ Room (now out) at (notAdmitted place store low high) ⌝ }
+    ensures { λ r. ⌜ Wrote (now (out .entry)) at (notAdmitted place store low high) (now (out .exit)) r ⌝ }
+{
+    let value = put_then_signed(
+        out,
+        at,
+        b"  Its instruction #, counted from 0, stores ",
+        &[place],
+        store.value,
+    );
+    let least = put_then_signed(
+        out,
+        value,
+        b" to cell #, whose guard asks for at least ",
+        &[store.cell],
+        low,
+    );
+    let most = put_then_signed(out, least, b" and at most ", &[], high);
+    text::put_bytes(
+        out,
+        most,
+        b".\n  It stores nothing, reserves nothing and is not carried.\n",
+    )
+}
+
+// A program that faulted at a store which the cell's guard did not admit.
+pub fn put_guard_fault(
+    out: &mut [u8],
+    at: usize,
+    number: u32,
+    place: u32,
+    store: machine::Store,
+    low: u32,
+    high: u32,
+) -> usize
+    requires { ⌜ Room (now out) at (guardFault number place store low high) ⌝ }
+    ensures { λ r. ⌜ Wrote (now (out .entry)) at (guardFault number place store low high) (now (out .exit)) r ⌝ }
+{
+    let next = text::put_filled(out, at, b"# faulted guard at #\n", &[number, place]);
+    put_not_admitted(out, next, place, store, low, high)
 }

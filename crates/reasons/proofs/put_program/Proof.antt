@@ -10,17 +10,17 @@ use Rattle.image.specs.Limits.{maxPrograms}
 use Rattle.image.specs.Refusals as refusal
 use Rattle.sentences.specs.Sentences.{rejected}
 use Rattle.refused.specs.Refused.{refusedLine}
-use Rattle.reasons.specs.Reasons.{committedText, carriedText, faultedText, programText}
+use Rattle.reasons.specs.Reasons.{committedText, carriedText, faultedText, endedText}
 use Rattle.reasons.proofs.Pages.{place-low, says-rejected, says-faulted, says-committed, says-carried, says-not-ended}
 use Rattle.reasons.proofs.put_program.Statement.{statement}
 use Rattle.reasons.proofs.put_program.Tie as tie
 
 -- where state and detail have been read, and what is to be said
 abbrev start-of : tie.After-detail → tie.Start
-start-of d = d .before .before .before .before .before .before
+start-of d = d .before .before .before .before .before .before .before
 
 abbrev said : tie.After-detail → List ℕ
-said d = let a = start-of d .args in programText (now (a .image)) (now (a .table)) (now (a .area)) (a .number)
+said d = let a = start-of d .args in endedText (now (a .image)) (now (a .table)) (now (a .guards)) (now (a .area)) (a .number)
 
 abbrev shown : tie.After-detail → ℕ
 shown d = start-of d .args .number
@@ -32,7 +32,7 @@ detail-of c = c .before .before .before
 -- ---- the cases
 
 is-rejected : (c : tie.Then1) → said (c .before) ≡ rejected (shown (c .before)) (c .before .detail .result)
-is-rejected c = let d = c .before in says-rejected _ _ _ _ _ (d .before .state .ensures) (c .if1 .taken) _ (d .detail .ensures)
+is-rejected c = let d = c .before in says-rejected _ _ _ _ _ _ (d .before .state .ensures) (c .if1 .taken) _ (d .detail .ensures)
 
 put-rejected-requires : tie.Need-put-rejected-requires
 put-rejected-requires c κs = let i = c .before in rw (is-rejected i) at (start-of (i .before) .pre .2)
@@ -44,7 +44,7 @@ is-faulted : (c : tie.Then2)
     → (let d = c .before .before in said d ≡ faultedText (shown d) (d .detail .result) (length (now (start-of d .args .table))))
 is-faulted c =
     let d = c .before .before in
-    says-faulted _ _ _ _ _ (d .before .state .ensures) (c .before .if1 .left) (c .if2 .taken) _ (d .detail .ensures)
+    says-faulted _ _ _ _ _ _ (d .before .state .ensures) (c .before .if1 .left) (c .if2 .taken) _ (d .detail .ensures)
 
 put-faulted-requires : tie.Need-put-faulted-requires
 put-faulted-requires c κs =
@@ -60,7 +60,7 @@ is-committed c =
     let i = c .before in
     let f = i .before .before in
     let d = detail-of (i .before) in
-    says-committed _ _ _ _ _ (d .before .state .ensures) (f .before .if1 .left) (f .if2 .left) (sym (i .before .is-in .ensures) ∙ i .if3 .taken) _
+    says-committed _ _ _ _ _ _ (d .before .state .ensures) (f .before .if1 .left) (f .if2 .left) (sym (i .before .is-in .ensures) ∙ i .if3 .taken) _
     (c .comes-before .ensures .answer)
 
 put-committed-requires : tie.Need-put-committed-requires
@@ -79,7 +79,7 @@ is-carried c =
     let e = i .before .before in
     let f = e .before .before in
     let d = detail-of (e .before) in
-    says-carried _ _ _ _ _ (d .before .state .ensures) (f .before .if1 .left) (f .if2 .left) (sym (e .before .is-in .ensures) ∙ e .if3 .left)
+    says-carried _ _ _ _ _ _ (d .before .state .ensures) (f .before .if1 .left) (f .if2 .left) (sym (e .before .is-in .ensures) ∙ e .if3 .left)
     (sym (i .before .is-in2 .ensures) ∙ i .if4 .taken) _ (w .why .ensures .answer) _ (c .place-of .ensures)
 
 put-carried-requires : tie.Need-put-carried-requires
@@ -97,7 +97,7 @@ is-not-ended c =
     let e = c .before .before in
     let f = e .before .before in
     let d = detail-of (e .before) in
-    says-not-ended _ _ _ _ _ (d .before .state .ensures) (f .before .if1 .left) (f .if2 .left) (sym (e .before .is-in .ensures) ∙ e .if3 .left)
+    says-not-ended _ _ _ _ _ _ (d .before .state .ensures) (f .before .if1 .left) (f .if2 .left) (sym (e .before .is-in .ensures) ∙ e .if3 .left)
     (sym (c .before .is-in2 .ensures) ∙ c .if4 .left)
 
 put-refused-requires : tie.Need-put-refused-requires
