@@ -65,10 +65,3 @@ module _ (input : List ℕ) where
 
   pub cells-whole : (T : ℕ) → T ≡ cellsOf input → (T ≡ 0 → ⊥) → Whole input T
   cells-whole T e h = let g = cells-good T e h in rw (e ∙ sym (good-cells g)) (good-shows g)
-
--- ---- a table that is filled from the front: one cell more
-
-pub one-more : (f : ℕ → ℕ) (t : List ℕ) (c v : ℕ) → c < length t → v ≡ f c → ((i : ℕ) → i < c → getD t i 0 ≡ f i) → (i : ℕ) → i < c + 1
-    → getD (set t c v) i 0 ≡ f i
-one-more f t c v l e h =
-    below-more (λ i. getD (set t c v) i 0 ≡ f i) c (λ i k. getD-set-other t c i v 0 (λ z. omega arith) ∙ h i k) (getD-set-same t c v 0 l ∙ e)

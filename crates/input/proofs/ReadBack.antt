@@ -1,4 +1,5 @@
--- What `cells` writes before an image is read back: the table is the typed cells, and the image is the image. Assumes nothing.
+-- What `cells` writes before an image is read back: the table is the typed cells, and the image is the image. And so is what `guards` writes between the two.
+-- Assumes nothing.
 use mathlib.Core.Path.{_≡_, refl, sym, ap, _∙_}
 use mathlib.Core.Logic.{_⊎_, inl, inr}
 use mathlib.Core.Bool.{true, _&&_}
@@ -8,16 +9,17 @@ use native.Mathlib.Omega.{arith}
 use lib.Dec.{leb}
 use lib.ListN.{length, getD, length-append, List·getD-append}
 use lib.Seq.{getD-append-add, drop-at}
-use borrow.Author.Tests.{le-leb}
+use borrow.Author.Tests.{le-leb, eqb-true}
 use Rattle.base.proofs.Bools.{both-and}
 use Rattle.base.proofs.Numbers.{below}
 use Rattle.base.proofs.Tables.{tabulate-is}
 use Rattle.text.specs.Filled.{texts}
 use Rattle.image.specs.Limits.{minCells, maxCells}
 use Rattle.image.specs.Image.{byteAt, numberAt}
-use Rattle.prefix.specs.Prefix.{two, cellAt, prefix, prefixBytes}
-use Rattle.prefix.proofs.Prefixes.{four-back, cells-long, prefix-long}
-use Rattle.input.specs.Prefix.{cellsNamed, wordAt, tableIn, imageIn, prefixGood, cellsOf}
+use Rattle.guard.specs.Guards.{guardWords, pairsFor}
+use Rattle.prefix.specs.Prefix.{two, cellAt, fours, prefix, prefixBytes}
+use Rattle.prefix.proofs.Prefixes.{four-back, cells-long, prefix-long, guards-long}
+use Rattle.input.specs.Prefix.{cellsNamed, wordAt, tableIn, guardsIn, guardsEnd, imageFrom, prefixGood, cellsOf}
 
 cell-long : (cells : List ℕ) (c : ℕ) → length (cellAt cells c) ≡ 4
 unfolding cellAt
@@ -68,5 +70,35 @@ module _ (cells image : List ℕ) (some : minCells ≤ length cells) (few : leng
   pub table-read : tableIn (prefix cells ++ image) (length cells) ≡ cells
   table-read = sym (tabulate-is (λ c. wordAt (prefix cells ++ image) (prefixBytes c)) (length cells) cells refl cell-of)
 
-  pub image-read : imageIn (prefix cells ++ image) (length cells) ≡ image
+  pub image-read : imageFrom (prefix cells ++ image) (prefixBytes (length cells)) ≡ image
   image-read = drop-at (prefix cells) image (prefixBytes (length cells)) (prefix-long cells)
+
+-- guards with a pair for each cell, between the cells and the image
+module _ (cells g image : List ℕ) (pairs : pairsFor (length cells) g ≡ true) (words : (i : ℕ) → getD g i 0 < 4294967296) where
+  abbrev input : List ℕ
+  input = prefix cells ++ (fours g ++ image)
+
+  guard-byte : (i j : ℕ) → i < length g → j < 4 → byteAt input (prefixBytes (length cells) + 4 * i + j) ≡ getD (cellAt g i) j 0
+  guard-byte i j l h =
+      let at : prefixBytes (length cells) + 4 * i + j ≡ length (prefix cells) + (4 * i + j) = omega (arith, prefix-long cells) in
+      rw (at, getD-append-add (prefix cells) (fours g ++ image) (4 * i + j) 0) (cell-byte g image (length g) i j l h)
+
+  guard-of : (i : ℕ) → i < length g → getD g i 0 ≡ wordAt input (prefixBytes (length cells) + 4 * i)
+  unfolding wordAt cellAt
+  guard-of i l =
+      let at = prefixBytes (length cells) + 4 * i in
+      let zero-at : byteAt input at ≡ getD (cellAt g i) 0 0 = let e : at ≡ at + 0 = omega arith in rw e (guard-byte i 0 l (omega arith)) in
+      sym (four-back (getD g i 0) (words i))
+      ∙ rw (zero-at, guard-byte i 1 l (omega arith), guard-byte i 2 l (omega arith), guard-byte i 3 l (omega arith))
+
+  pub guards-read : guardsIn input (length cells) ≡ g
+  unfolding pairsFor
+  guards-read =
+      let long : length g ≡ guardWords (length cells) = eqb-true (length g) (guardWords (length cells)) pairs in
+      sym (tabulate-is (λ i. wordAt input (prefixBytes (length cells) + 4 * i)) (guardWords (length cells)) g long (λ i l. guard-of i (omega arith)))
+
+  pub image-behind-read : imageFrom input (guardsEnd (length cells)) ≡ image
+  image-behind-read =
+      let long : length (prefix cells ++ fours g) ≡ guardsEnd (length cells) =
+      length-append (prefix cells) (fours g) ∙ omega (arith, prefix-long cells, guards-long (length cells) g pairs) in
+      rw (← append-assoc (prefix cells) (fours g) image) (drop-at (prefix cells ++ fours g) image (guardsEnd (length cells)) long)

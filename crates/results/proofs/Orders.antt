@@ -31,40 +31,40 @@ abbrev countIn : Listed → ℕ
 countIn (Refused r) = 0
 countIn (Count n) = n
 
-module _ (image t a list : List ℕ) where
+module _ (image t g a list : List ℕ) where
   abbrev order : List ℕ
   order = orderOf (length t) (countOf image) a
 
-  answer-refused : (orderRefusal image t a orderRoom .number ≡ 0 → ⊥) → orderAnswer image t a orderRoom ≡ Refused (orderRefusal image t a orderRoom)
+  answer-refused : (orderRefusal image t g a orderRoom .number ≡ 0 → ⊥) → orderAnswer image t g a orderRoom ≡ Refused (orderRefusal image t g a orderRoom)
   unfolding orderAnswer
-  answer-refused h = unless-refused (orderRefusal image t a orderRoom) Refused (Count (length order)) h
+  answer-refused h = unless-refused (orderRefusal image t g a orderRoom) Refused (Count (length order)) h
 
-  answer-done : orderRefusal image t a orderRoom .number ≡ 0 → orderAnswer image t a orderRoom ≡ Count (length order)
+  answer-done : orderRefusal image t g a orderRoom .number ≡ 0 → orderAnswer image t g a orderRoom ≡ Count (length order)
   unfolding orderAnswer
-  answer-done e = unless-done (orderRefusal image t a orderRoom) Refused (Count (length order)) e
+  answer-done e = unless-done (orderRefusal image t g a orderRoom) Refused (Count (length order)) e
 
-  pub refused-is : (r : Refusal) → OrderSays image t a orderRoom (Refused r) list → listing image t a ≡ refusedLine r
+  pub refused-is : (r : Refusal) → OrderSays image t g a orderRoom (Refused r) list → listing image t g a ≡ refusedLine r
   unfolding listing
-  refused-is r says = go (ℕ-discrete (orderRefusal image t a orderRoom .number) 0)
+  refused-is r says = go (ℕ-discrete (orderRefusal image t g a orderRoom .number) 0)
     where
-      go : Dec (orderRefusal image t a orderRoom .number ≡ 0) → unless (orderRefusal image t a orderRoom) refusedLine (listingWith order image t a) ≡ refusedLine r
+      go : Dec (orderRefusal image t g a orderRoom .number ≡ 0) → unless (orderRefusal image t g a orderRoom) refusedLine (listingWith order image t a) ≡ refusedLine r
       go (yes e) = clash {b = true} refl (ap isRefused (says .answer ∙ answer-done e))
       go (no h) =
-          unless-refused (orderRefusal image t a orderRoom) refusedLine (listingWith order image t a) h
+          unless-refused (orderRefusal image t g a orderRoom) refusedLine (listingWith order image t a) h
           ∙ ap refusedLine (sym (ap refusalIn (says .answer ∙ answer-refused h)))
 
-  pub listed-is : (n : ℕ) → OrderSays image t a orderRoom (Count n) list → (listing image t a ≡ listingWith (take n list) image t a) × (n ≤ length list)
+  pub listed-is : (n : ℕ) → OrderSays image t g a orderRoom (Count n) list → (listing image t g a ≡ listingWith (take n list) image t a) × (n ≤ length list)
   unfolding listing orderList
-  listed-is n says = go (ℕ-discrete (orderRefusal image t a orderRoom .number) 0)
+  listed-is n says = go (ℕ-discrete (orderRefusal image t g a orderRoom .number) 0)
     where
-      go : Dec (orderRefusal image t a orderRoom .number ≡ 0)
-          → (unless (orderRefusal image t a orderRoom) refusedLine (listingWith order image t a) ≡ listingWith (take n list) image t a) × (n ≤ length list)
+      go : Dec (orderRefusal image t g a orderRoom .number ≡ 0)
+          → (unless (orderRefusal image t g a orderRoom) refusedLine (listingWith order image t a) ≡ listingWith (take n list) image t a) × (n ≤ length list)
       go (yes e) =
           let c : n ≡ length order = ap countIn (says .answer ∙ answer-done e) in
           let l : list ≡ overwritten order orderRoom =
-          says .entries ∙ unless-done (orderRefusal image t a orderRoom) (λ r. orderRoom) (overwritten order orderRoom) e in
+          says .entries ∙ unless-done (orderRefusal image t g a orderRoom) (λ r. orderRoom) (overwritten order orderRoom) e in
           let front : take n list ≡ order = rw (l, c) (take-at order (drop (length order) orderRoom) (length order) refl) in (
-            unless-done (orderRefusal image t a orderRoom) refusedLine (listingWith order image t a) e ∙ rw front,
+            unless-done (orderRefusal image t g a orderRoom) refusedLine (listingWith order image t a) e ∙ rw front,
             rw (l, length-append) (omega (arith, c)),
           )
       go (no h) = clash {b = true} refl (sym (ap isRefused (says .answer ∙ answer-refused h)))

@@ -16,6 +16,7 @@ use Rattle.image.specs.Refusals.{check}
 use Rattle.image.specs.Image.{countOf, secondRule, refusalOf}
 use Rattle.image.proofs.Laws.{refusal-few}
 use Rattle.image.proofs.Refusing.{unless-either}
+use Rattle.guard.specs.Guards.{pairsFor}
 use Rattle.slot.specs.declared.Group.the-variants.{Committed}
 use Rattle.slot.specs.States.{waiting, gathered, rejected, faulted, committed}
 use Rattle.area.specs.Layout.{stateOf, detailAt, detailOf, inGroup, readsOf, storesOf}
@@ -43,25 +44,25 @@ unfolding check
 check-small true gives rest g r = r
 check-small false gives rest g r = g
 
-module _ (image t a : List ℕ) where
-  pub open-small : Small (openRefusal image t a)
+module _ (image t g a : List ℕ) where
+  pub open-small : Small (openRefusal image t g a)
   unfolding openRefusal roomRefusal
   open-small =
       check-small _ (refusalOf image) _ (omega (arith, refusal-few image))
-      (check-small (tableGood t) _ _ (omega arith) (check-small (sizeIs (length t) (countOf image) a) _ _ (omega arith) (omega arith)))
+      (check-small (tableGood t) _ _ (omega arith) (check-small (pairsFor (length t) g) _ _ (omega arith) (check-small (sizeIs (length t) (countOf image) a) _ _ (omega arith) (omega arith))))
 
-  ended-small : Small (endedRefusal image t a)
+  ended-small : Small (endedRefusal image t g a)
   unfolding endedRefusal callRefusal
   ended-small =
-      check-small _ (callRefusal image t a) _
-      (check-small _ (openRefusal image t a) _ open-small (check-small (wordsGood (length t) (countOf image) a) _ _ (omega arith) (omega arith)))
+      check-small _ (callRefusal image t g a) _
+      (check-small _ (openRefusal image t g a) _ open-small (check-small (wordsGood (length t) (countOf image) a) _ _ (omega arith) (omega arith)))
       (check-small (allEnded (length t) (countOf image) a) _ _ (omega arith) (omega arith))
 
-  order-small : (list : List ℕ) → Small (orderRefusal image t a list)
+  order-small : (list : List ℕ) → Small (orderRefusal image t g a list)
   unfolding orderRefusal listRefusal
   order-small list =
-      check-small _ (listRefusal image t a list) _
-      (check-small _ (endedRefusal image t a) _ ended-small (check-small (leb (countOf image) (length list)) _ _ (omega arith) (omega arith)))
+      check-small _ (listRefusal image t g a list) _
+      (check-small _ (endedRefusal image t g a) _ ended-small (check-small (leb (countOf image) (length list)) _ _ (omega arith) (omega arith)))
       (check-small (orderExists (length t) (countOf image) a) _ _ (omega arith) (omega arith))
 
 -- ---- each line
@@ -143,7 +144,7 @@ order-short T n a l =
 
 -- ---- the whole
 
-module _ (image t a : List ℕ) (n : countOf image ≤ maxPrograms) (l : length t ≤ maxCells) (nt : Narrow t) (na : Narrow a) where
+module _ (image t g a : List ℕ) (n : countOf image ≤ maxPrograms) (l : length t ≤ maxCells) (nt : Narrow t) (na : Narrow a) where
   with-short : length (listingWith (orderOf (length t) (countOf image) a) image t a) ≤ mostListing
   unfolding listingWith
   with-short =
@@ -163,9 +164,9 @@ module _ (image t a : List ℕ) (n : countOf image ≤ maxPrograms) (l : length 
         texts-short (cellLine t) T (most (ascii "# #\n") 2) (λ c h. cell-short t c (omega arith) nt),
       )
 
-  pub listing-short : length (listing image t a) ≤ mostListing
+  pub listing-short : length (listing image t g a) ≤ mostListing
   unfolding listing
   listing-short =
-      unless-either (λ x. length x ≤ mostListing) (orderRefusal image t a orderRoom) refusedLine (listingWith (orderOf (length t) (countOf image) a) image t a)
-      (omega (arith, refused-short (orderRefusal image t a orderRoom) (order-small image t a orderRoom)))
+      unless-either (λ x. length x ≤ mostListing) (orderRefusal image t g a orderRoom) refusedLine (listingWith (orderOf (length t) (countOf image) a) image t a)
+      (omega (arith, refused-short (orderRefusal image t g a orderRoom) (order-small image t g a orderRoom)))
       (λ e. with-short)

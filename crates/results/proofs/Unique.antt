@@ -7,5 +7,5 @@ use Rattle.base.specs.Unique.{Unique}
 use Rattle.results.proofs.put_listing.Kinds as put-listing-kinds
 use Rattle.results.proofs.put_listing.Reads as put-listing
 
-pub put-listing-unique : Unique {A = ℕ × List ℕ} 4 put-listing-kinds.ps put-listing-kinds.r (λ κs x s. (x, now (s .0))) put-listing.Post
+pub put-listing-unique : Unique {A = ℕ × List ℕ} 5 put-listing-kinds.ps put-listing-kinds.r (λ κs x s. (x, now (s .0))) put-listing.Post
 put-listing-unique κs a x y s t p q = cc

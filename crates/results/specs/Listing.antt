@@ -1,5 +1,5 @@
--- Document 01, "Bench sheet": the listing that the program `batch` prints of a settled batch, and the line of a refusal. It is over image, table and
--- area: a program's state and detail stand in the area. Assumes nothing.
+-- Document 01, "Bench sheet": the listing that the program `batch` prints of a settled batch, and the line of a refusal. It is over image, table,
+-- guards and area: a program's state and detail stand in the area. Assumes nothing.
 use Prim.Native.Nat.{ℕ, _+_, _*_}
 use mathlib.Core.Bool.{cond}
 use mathlib.Core.List.{List, [], _∷_, _++_}
@@ -60,9 +60,9 @@ listingWith order image t a = firstLine image t ++ programLines (length t) (coun
 abbrev pub orderRoom : List ℕ
 orderRoom = replicate maxPrograms 0
 
-unfoldable pub listing : (image table area : List ℕ) → List ℕ
-listing image t a =
-    unless (orderRefusal image t a orderRoom) refusedLine (listingWith (orderOf (length t) (countOf image) a) image t a)
+unfoldable pub listing : (image table guards area : List ℕ) → List ℕ
+listing image t g a =
+    unless (orderRefusal image t g a orderRoom) refusedLine (listingWith (orderOf (length t) (countOf image) a) image t a)
 
 -- ---- how long a listing is at most, where its numbers have 32 bits, which are ten digits: a text, and ten more for each number in it
 

@@ -170,12 +170,19 @@ fn put_with(
 }
 
 // All that came of a settled batch; where it has no listed order, the refusal.
-pub fn put_listing(out: &mut [u8], at: usize, image: &[u8], table: &[u32], area: &[u32]) -> usize
-    requires { ⌜ Measured (length (now table)) (countOf (now image)) (now area) × Room (now out) at (listing (now image) (now table) (now area)) ⌝ }
-    ensures { λ r. ⌜ Wrote (now (out .entry)) at (listing (now (image .entry)) (now (table .entry)) (now (area .entry))) (now (out .exit)) r ⌝ }
+pub fn put_listing(
+    out: &mut [u8],
+    at: usize,
+    image: &[u8],
+    table: &[u32],
+    guards: &[u32],
+    area: &[u32],
+) -> usize
+    requires { ⌜ Measured (length (now table)) (countOf (now image)) (now area) × Room (now out) at (listing (now image) (now table) (now guards) (now area)) ⌝ }
+    ensures { λ r. ⌜ Wrote (now (out .entry)) at (listing (now (image .entry)) (now (table .entry)) (now (guards .entry)) (now (area .entry))) (now (out .exit)) r ⌝ }
 {
     let mut order = [0u32; image::Image::PROGRAMS];
-    match listing::order(image, table, area, &mut order) {
+    match listing::order(image, table, guards, area, &mut order) {
         listing::Listed::Refused(refusal) => refused::put_refused(out, at, refusal),
         listing::Listed::Count(count) => { put_with(out, at, &order[0..count], image, table, area) }
     }

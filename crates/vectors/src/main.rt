@@ -1,5 +1,5 @@
-// Runs the stored inputs of data/ through the work of `batch`, and then of `why`; its output is held to what an independent implementation printed
-// (tests/vectors). A pack is a list of inputs: four bytes of length, low first, and then the bytes.
+// Runs the stored inputs of data/ through the work of `batch`, and then of `why`, or of `guarded` and `guarded_why` where they have guards; its output is held to
+// what an independent implementation printed (tests/vectors). A pack is a list of inputs: four bytes of length, low first, and then the bytes.
 
 ghost use mathlib.Core.Path.{_≡_};
 ghost use Prim.Native.Nat.{_≤_, _<_};
@@ -45,32 +45,32 @@ fn print_heading(name: &[u8], why: bool, number: u64) {
     io::write_all(OUT, b"\n");
 }
 
-// The page of `batch` for an input.
-fn print_batch(input: &[u8]) {
+// The page of `batch`, or of `guarded`, for an input.
+fn print_batch(from: report::Guards, input: &[u8]) {
     let mut page = results::room();
-    let end = report::batch_page(input, &mut page);
+    let end = report::batch_page(from, input, &mut page);
     output::print(b"vectors", &page[0..end]);
 }
 
-// The page of `why` for an input.
-fn print_reasons(input: &[u8]) {
+// The page of `why`, or of `guarded_why`, for an input.
+fn print_reasons(from: report::Guards, input: &[u8]) {
     let mut page = reasons::page_room();
-    let end = report::reasons_page(input, &mut page);
+    let end = report::reasons_page(from, input, &mut page);
     output::print(b"vectors", &page[0..end]);
 }
 
-// Reads an input that fills what is lent, and runs it for the page of `batch`, or of `why`.
-fn run_input(pack: i32, input: &mut [u8], why: bool) {
+// Reads an input that fills what is lent, and runs it for what came of it, or why.
+fn run_input(pack: i32, input: &mut [u8], from: report::Guards, why: bool) {
     let got = io::read_full(pack, input);
     if why {
-        print_reasons(&input[..got]);
+        print_reasons(from, &input[..got]);
     } else {
-        print_batch(&input[..got]);
+        print_batch(from, &input[..got]);
     }
 }
 
 // Runs the next input of a pack, and answers whether there was one.
-fn run_next(pack: i32, name: &[u8], why: bool, number: u64) -> bool {
+fn run_next(pack: i32, name: &[u8], from: report::Guards, why: bool, number: u64) -> bool {
     let mut head = [0u8; 4];
     if io::read_full(pack, &mut head) < 4 {
         return false;
@@ -78,15 +78,15 @@ fn run_next(pack: i32, name: &[u8], why: bool, number: u64) -> bool {
     print_heading(name, why, number);
     let mut space = room();
     let n = length_of(&head);
-    run_input(pack, &mut space[0..n], why);
+    run_input(pack, &mut space[0..n], from, why);
     true
 }
 
 // Runs every input of a pack. No pack has as many as the loop would take.
-fn run_all(pack: i32, name: &[u8], why: bool) {
+fn run_all(pack: i32, name: &[u8], from: report::Guards, why: bool) {
     let mut number: u64 = 0;
     while number < 1000000 {
-        if !run_next(pack, name, why, number) {
+        if !run_next(pack, name, from, why, number) {
             return;
         }
         number += 1;
@@ -94,22 +94,23 @@ fn run_all(pack: i32, name: &[u8], why: bool) {
 }
 
 // Opens a pack and runs it.
-fn run_pack(file: &[u8], name: &[u8], why: bool) {
+fn run_pack(file: &[u8], name: &[u8], from: report::Guards, why: bool) {
     let pack = os::open_read(file);
     if pack < 0 {
         os::fail(file);
         return;
     }
-    run_all(pack, name, why);
+    run_all(pack, name, from, why);
     libc::close(pack);
 }
 
-// Runs the four packs.
+// Runs the packs whose inputs have no guards, and then the one whose inputs do.
 fn run_packs(why: bool) {
-    run_pack(b"bench.pack", b"bench", why);
-    run_pack(b"good.pack", b"good", why);
-    run_pack(b"edge.pack", b"edge", why);
-    run_pack(b"damaged.pack", b"damaged", why);
+    run_pack(b"bench.pack", b"bench", report::Guards::FullRange, why);
+    run_pack(b"good.pack", b"good", report::Guards::FullRange, why);
+    run_pack(b"edge.pack", b"edge", report::Guards::FullRange, why);
+    run_pack(b"damaged.pack", b"damaged", report::Guards::FullRange, why);
+    run_pack(b"guarded.pack", b"guarded", report::Guards::FromInput, why);
 }
 
 fn main() {

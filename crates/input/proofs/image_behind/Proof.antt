@@ -9,5 +9,4 @@ returns : tie.Need-returns
 returns c = rw (← length-drop) (take-length _)
 
 pub image-behind-spec : {M : Type 1} → statement M
-image-behind-spec =
-    tie.close (tie.spec (λ c. search needs) (λ c. search needs) (λ c. search needs) (λ c. search needs) (λ c. search needs) returns)
+image-behind-spec = tie.close (tie.spec (λ c. search needs) (λ c. search needs) (λ c. search needs) returns)

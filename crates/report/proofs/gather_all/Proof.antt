@@ -10,22 +10,22 @@ use Rattle.report.proofs.gather_all.Statement.{statement}
 use Rattle.report.proofs.gather_all.Tie as tie
 
 abbrev Inv-loop : tie.InvT-loop
-Inv-loop image table area₀ n k₀ area k = (k ≤ n) × (length area ≡ length area₀) × (area ≡ gatherFirst image table area₀ k)
+Inv-loop image table guards area₀ n k₀ area k = (k ≤ n) × (length area ≡ length area₀) × (area ≡ gatherFirst image table guards area₀ k)
 
 abbrev μ-loop : tie.MeasureT-loop
-μ-loop image table area₀ n k₀ area k = n - k
+μ-loop image table guards area₀ n k₀ area k = n - k
 
 loop-holds : tie.Need-loop-holds Inv-loop μ-loop
-loop-holds c = (search needs, search needs, gather-none _ _ _)
+loop-holds c = (search needs, search needs, gather-none _ _ _ _)
 
 loop-again : tie.Need-loop-again Inv-loop μ-loop
 loop-again c =
     let g = c .before .before in
     let l = g .before .before .before .loop in
-    (search needs, search needs, gather-more _ _ _ (l .k) (l .inv .2) (g .gather .ensures .area))
+    (search needs, search needs, gather-more _ _ _ _ (l .k) (l .inv .2) (g .gather .ensures .area))
 
 returns : tie.Need-returns Inv-loop μ-loop
-returns c = let l = c .before .loop in let e : l .k ≡ c .before .before .before .before .before .args .n = omega arith in rw e at (l .inv .2)
+returns c = let l = c .before .loop in let e : l .k ≡ c .before .before .before .before .before .before .args .n = omega arith in rw e at (l .inv .2)
 
 pub gather-all-spec : {M : Type 1} → statement M
 gather-all-spec =

@@ -8,13 +8,13 @@ use Rattle.report.proofs.put_listing.Tie as tie
 put-listing-requires : tie.Need-put-listing-requires
 put-listing-requires c κs =
     let area = c .before in
-    let table = area .before in
+    let table = area .before .before in
     let s = table .before .before .before in
     let p = s .pre .0 in
     let a = s .args in
     let short =
-    listing-short (a .image .now) (a .table .now) (a .area .now) (p .programs-few) (p .cells-few)
-    (record { word = λ i. omega (arith, table .shared-slice-known2 .given i) }) (record { word = λ i. omega (arith, area .shared-slice-known3 .given i) }) in
+    listing-short (a .image .now) (a .table .now) (a .guards .now) (a .area .now) (p .programs-few) (p .cells-few)
+    (record { word = λ i. omega (arith, table .shared-slice-known2 .given i) }) (record { word = λ i. omega (arith, area .shared-slice-known4 .given i) }) in
     (p, record { fits = omega (arith, short, s .pre .1) })
 
 pub put-listing-spec : {M : Type 1} → statement M

@@ -11,13 +11,13 @@ use Rattle.report.proofs.put_page.Tie as tie
 
 put-listing-requires : tie.Need-put-listing-requires
 put-listing-requires c κs =
-    let s = c .before .before .before .before .before .before .before in
-    (s .pre .0, subst (λ (x : Page). pageMost x ≤ length (now (s .args .out))) (c .before .enum-told .given .1) (s .pre .2))
+    let s = c .before .before .before .before .before .before .before .before .before in
+    (s .pre .0 .measured, subst (λ (x : Page). pageMost x ≤ length (now (s .args .out))) (c .before .enum-told .given .1) (s .pre .1))
 
 put-reasons-requires : tie.Need-put-reasons-requires
 put-reasons-requires c κs =
-    let s = c .before .before .before .before .before .before .before in
-    (s .pre .0, s .pre .1, subst (λ (x : Page). pageMost x ≤ length (now (s .args .out))) (c .before .enum-told2 .given .1) (s .pre .2))
+    let s = c .before .before .before .before .before .before .before .before .before in
+    (s .pre .0, subst (λ (x : Page). pageMost x ≤ length (now (s .args .out))) (c .before .enum-told2 .given .1) (s .pre .1))
 
 returns : tie.Need-returns
 returns c = rw (c .before .before .before .before .enum-told .given .1) (c .before .before .put-listing .ensures)

@@ -22,7 +22,7 @@ returns-2 c =
     let said = opened-at s .«open» .ensures in
     record {
       answer = said .answer;
-      done = λ z. run-done _ _ _ _ (said .area) (counted-at s .count .ensures .0) (gathered-at s .gather-all .ensures) (s .settle-all .ensures);
+      done = λ z. run-done _ _ _ _ _ (said .area) (counted-at s .count .ensures .0) (gathered-at s .gather-all .ensures) (s .settle-all .ensures);
     }
 
 pub run-in-spec : {M : Type 1} → statement M

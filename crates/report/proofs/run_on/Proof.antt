@@ -10,16 +10,16 @@ use Rattle.report.proofs.run_on.Statement.{statement}
 use Rattle.report.proofs.run_on.Tie as tie
 
 abbrev start-of : tie.After-run-in → tie.Start
-start-of c = c .before .before .before .before .before .before
+start-of c = c .before .before .before .before .before .before .before
 
 returns : tie.Need-returns
 returns c =
     let r = c .before .before .before .before in
     let s = start-of r in
     let a = s .args in
-    let as-many : length (r .run-in .last .1 .1 .0) ≡ a .words =
+    let as-many : length (r .run-in .last .1 .1 .1 .0) ≡ a .words =
     omega (arith, c .before .areas .given, length-take-le (a .words - 0) (a .areas .now) (omega (arith, s .pre .lie))) in
-    on-is (a .image .now) (a .table .now) (a .areas .now) (a .words) _ (s .pre) (r .run-in .ensures) as-many
+    on-is (a .image .now) (a .table .now) (a .guards .now) (a .areas .now) (a .words) _ (s .pre) (r .run-in .ensures) as-many
 
 pub run-on-spec : {M : Type 1} → statement M
 run-on-spec =

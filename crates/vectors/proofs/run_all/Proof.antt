@@ -5,10 +5,10 @@ use Rattle.vectors.proofs.run_all.Statement.{statement}
 use Rattle.vectors.proofs.run_all.Tie as tie
 
 abbrev Inv-loop : tie.InvT-loop
-Inv-loop pack name why number₀ number = Unit {0}
+Inv-loop pack name from why number₀ number = Unit {0}
 
 abbrev μ-loop : tie.MeasureT-loop
-μ-loop pack name why number₀ number = 1000000 - number
+μ-loop pack name from why number₀ number = 1000000 - number
 
 pub run-all-spec : {M : Type 1} → statement M
 run-all-spec =
