@@ -7,6 +7,7 @@ use material::assembler::{image, sheet};
 use material::bad::{following, good_programs, instructions, places, replaced, TYPED_WAYS, WAYS};
 use material::case::Program;
 use plain::area;
+use plain::guards::full_range;
 use plain::image::LONGEST;
 use plain::Refusal;
 
@@ -41,7 +42,8 @@ fn lend_image(
 ) {
     let (bad, empty) = (&mut bytes(&image(2, programs)), &mut bytes(&image(2, &[])));
     let (table, area) = (&mut words(&[0; CELLS]), &mut words(&vec![0; area::words(CELLS, 0)]));
-    let (list, out) = (&mut words(&[]), &mut bytes(&[0; LONGEST]));
+    let (guards, list) = (&mut words(&full_range(CELLS)), &mut words(&[]));
+    let out = &mut bytes(&[0; LONGEST]);
 
     assert_eq!(archive.program(bad, 0), 0..0, "program hands nothing back");
     note("program", archive.measured.unwrap_or(0));
@@ -51,19 +53,19 @@ fn lend_image(
     };
     let answer = archive.program_refusal(bad, 0);
     refused("program_refusal", answer, refusal, archive.measured);
-    let answer = archive.open(bad, table, area);
+    let answer = archive.open(bad, table, guards, area);
     refused("open", answer, refusal, archive.measured);
-    let answer = archive.gather(bad, table, area, 0).refusal;
+    let answer = archive.gather(bad, table, guards, area, 0).refusal;
     refused("gather", answer, refusal, archive.measured);
-    let answer = archive.settle(bad, table, area, 0).refusal;
+    let answer = archive.settle(bad, table, guards, area, 0).refusal;
     refused("settle", answer, refusal, archive.measured);
-    let answer = archive.why(bad, table, area, 0).refusal;
+    let answer = archive.why(bad, table, guards, area, 0).refusal;
     refused("why", answer, refusal, archive.measured);
-    let answer = archive.order(bad, table, area, list).refusal;
+    let answer = archive.order(bad, table, guards, area, list).refusal;
     refused("order", answer, refusal, archive.measured);
-    let answer = archive.next_image(bad, table, area, empty, out).refusal;
+    let answer = archive.next_image(bad, table, guards, area, empty, out).refusal;
     refused("next_image", answer, refusal, archive.measured);
-    let answer = archive.next_image(empty, table, area, bad, out).refusal;
+    let answer = archive.next_image(empty, table, guards, area, bad, out).refusal;
     refused("next_image", answer, refusal.of_fresh(), archive.measured);
     let answer = archive.sheet_of(bad, out).refusal;
     refused("sheet_of", answer, refusal, archive.measured);

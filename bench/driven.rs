@@ -21,6 +21,7 @@ pub fn run(
     mut note: impl FnMut(usize, u64),
 ) {
     let (image, table) = (&mut bytes(&scenario.image), &mut words(&scenario.table));
+    let guards = &mut words(&scenario.guards);
     let (fresh, out) = (&mut bytes(&scenario.fresh), &mut bytes(&[0; LONGEST]));
     let (area, list) = (&mut words(&scenario.first_area()), &mut words(&[0; PROGRAMS]));
     let mut noted = |call: usize, measured: Option<u64>| {
@@ -32,34 +33,34 @@ pub fn run(
 
     archive.measure = measure;
     if let Start::Opening = scenario.start {
-        done(archive.open(image, table, area));
+        done(archive.open(image, table, guards, area));
         noted(OPEN, archive.measured);
         for number in 0..scenario.programs {
             archive.measure = chosen(number);
-            done(archive.gather(image, table, area, number).refusal);
+            done(archive.gather(image, table, guards, area, number).refusal);
             let gathering = archive.measured;
             noted(GATHER, gathering);
             if let (Measure::Instructions, Some(gathering)) = (archive.measure, gathering) {
-                let again = archive.gather(image, table, area, number);
+                let again = archive.gather(image, table, guards, area, number);
                 assert_eq!(again.refusal, STATE, "a program is gathered once");
                 noted(RUN, archive.measured.map(|checks| gathering - checks));
             }
         }
         for (place, number) in gathered_programs(area.lent(), table.lent().len()).into_iter().enumerate() {
             archive.measure = chosen(place);
-            done(archive.settle(image, table, area, number).refusal);
+            done(archive.settle(image, table, guards, area, number).refusal);
             noted(SETTLE, archive.measured);
         }
         for (place, number) in carried_programs(area.lent(), table.lent().len()).into_iter().enumerate() {
             archive.measure = chosen(place);
-            done(archive.why(image, table, area, number).refusal);
+            done(archive.why(image, table, guards, area, number).refusal);
             noted(WHY, archive.measured);
         }
     }
     archive.measure = measure;
-    done(archive.order(image, table, area, list).refusal);
+    done(archive.order(image, table, guards, area, list).refusal);
     noted(ORDER, archive.measured);
-    done(archive.next_image(image, table, area, fresh, out).refusal);
+    done(archive.next_image(image, table, guards, area, fresh, out).refusal);
     noted(NEXT_IMAGE, archive.measured);
 }
 

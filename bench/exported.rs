@@ -45,11 +45,14 @@ pub unsafe extern "C" fn sheetbendle_open(
     image_bytes: usize,
     table: *const u32,
     cells: usize,
+    guards: *const u32,
+    guard_words: usize,
     area: *mut u32,
     words: usize,
 ) -> CRefusal {
     let (image, table) = (from_raw_parts(image, image_bytes), from_raw_parts(table, cells));
-    refusal(plain::open(image, table, from_raw_parts_mut(area, words)))
+    let guards = from_raw_parts(guards, guard_words);
+    refusal(plain::open(image, table, guards, from_raw_parts_mut(area, words)))
 }
 
 #[no_mangle]
@@ -58,12 +61,15 @@ pub unsafe extern "C" fn sheetbendle_gather(
     image_bytes: usize,
     table: *const u32,
     cells: usize,
+    guards: *const u32,
+    guard_words: usize,
     area: *mut u32,
     words: usize,
     number: usize,
 ) -> CStep {
     let (image, table) = (from_raw_parts(image, image_bytes), from_raw_parts(table, cells));
-    step(plain::gather(image, table, from_raw_parts_mut(area, words), number))
+    let guards = from_raw_parts(guards, guard_words);
+    step(plain::gather(image, table, guards, from_raw_parts_mut(area, words), number))
 }
 
 #[no_mangle]
@@ -72,12 +78,15 @@ pub unsafe extern "C" fn sheetbendle_settle(
     image_bytes: usize,
     table: *mut u32,
     cells: usize,
+    guards: *const u32,
+    guard_words: usize,
     area: *mut u32,
     words: usize,
     number: usize,
 ) -> CStep {
     let (image, table) = (from_raw_parts(image, image_bytes), from_raw_parts_mut(table, cells));
-    step(plain::settle(image, table, from_raw_parts_mut(area, words), number))
+    let guards = from_raw_parts(guards, guard_words);
+    step(plain::settle(image, table, guards, from_raw_parts_mut(area, words), number))
 }
 
 #[no_mangle]
@@ -86,12 +95,15 @@ pub unsafe extern "C" fn sheetbendle_why(
     image_bytes: usize,
     table: *const u32,
     cells: usize,
+    guards: *const u32,
+    guard_words: usize,
     area: *const u32,
     words: usize,
     number: usize,
 ) -> CCause {
     let (image, table) = (from_raw_parts(image, image_bytes), from_raw_parts(table, cells));
-    cause(plain::why(image, table, from_raw_parts(area, words), number))
+    let guards = from_raw_parts(guards, guard_words);
+    cause(plain::why(image, table, guards, from_raw_parts(area, words), number))
 }
 
 #[no_mangle]
@@ -100,13 +112,16 @@ pub unsafe extern "C" fn sheetbendle_order(
     image_bytes: usize,
     table: *const u32,
     cells: usize,
+    guards: *const u32,
+    guard_words: usize,
     area: *const u32,
     words: usize,
     list: *mut u32,
     entries: usize,
 ) -> CCount {
     let (image, table) = (from_raw_parts(image, image_bytes), from_raw_parts(table, cells));
-    count(plain::order(image, table, from_raw_parts(area, words), from_raw_parts_mut(list, entries)))
+    let guards = from_raw_parts(guards, guard_words);
+    count(plain::order(image, table, guards, from_raw_parts(area, words), from_raw_parts_mut(list, entries)))
 }
 
 #[no_mangle]
@@ -115,6 +130,8 @@ pub unsafe extern "C" fn sheetbendle_next_image(
     image_bytes: usize,
     table: *const u32,
     cells: usize,
+    guards: *const u32,
+    guard_words: usize,
     area: *const u32,
     words: usize,
     fresh: *const u8,
@@ -123,8 +140,9 @@ pub unsafe extern "C" fn sheetbendle_next_image(
     out_bytes: usize,
 ) -> CCount {
     let (image, table) = (from_raw_parts(image, image_bytes), from_raw_parts(table, cells));
+    let guards = from_raw_parts(guards, guard_words);
     let (area, fresh) = (from_raw_parts(area, words), from_raw_parts(fresh, fresh_bytes));
-    count(plain::next_image(image, table, area, fresh, from_raw_parts_mut(out, out_bytes)))
+    count(plain::next_image(image, table, guards, area, fresh, from_raw_parts_mut(out, out_bytes)))
 }
 
 #[no_mangle]

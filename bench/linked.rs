@@ -49,6 +49,8 @@ extern "C" {
         image_bytes: usize,
         table: *const u32,
         cells: usize,
+        guards: *const u32,
+        guard_words: usize,
         area: *mut u32,
         words: usize,
     ) -> CRefusal;
@@ -57,6 +59,8 @@ extern "C" {
         image_bytes: usize,
         table: *const u32,
         cells: usize,
+        guards: *const u32,
+        guard_words: usize,
         area: *mut u32,
         words: usize,
         number: usize,
@@ -66,6 +70,8 @@ extern "C" {
         image_bytes: usize,
         table: *mut u32,
         cells: usize,
+        guards: *const u32,
+        guard_words: usize,
         area: *mut u32,
         words: usize,
         number: usize,
@@ -75,6 +81,8 @@ extern "C" {
         image_bytes: usize,
         table: *const u32,
         cells: usize,
+        guards: *const u32,
+        guard_words: usize,
         area: *const u32,
         words: usize,
         number: usize,
@@ -84,6 +92,8 @@ extern "C" {
         image_bytes: usize,
         table: *const u32,
         cells: usize,
+        guards: *const u32,
+        guard_words: usize,
         area: *const u32,
         words: usize,
         list: *mut u32,
@@ -94,6 +104,8 @@ extern "C" {
         image_bytes: usize,
         table: *const u32,
         cells: usize,
+        guards: *const u32,
+        guard_words: usize,
         area: *const u32,
         words: usize,
         fresh: *const u8,
@@ -109,52 +121,94 @@ extern "C" {
 // that the header asks.
 impl Calls for Archive {
     #[inline]
-    fn open(&self, image: &[u8], table: &[u32], area: &mut [u32]) -> Refusal {
-        let (image_bytes, cells, words) = (image.len(), table.len(), area.len());
-        let (image, table, area) = (image.as_ptr(), table.as_ptr(), area.as_mut_ptr());
-        refusal(unsafe { sheetbendle_open(image, image_bytes, table, cells, area, words) })
+    fn open(&self, image: &[u8], table: &[u32], guards: &[u32], area: &mut [u32]) -> Refusal {
+        let ((image, image_bytes), (table, cells), (guards, guard_words)) =
+            (lent(image), lent(table), lent(guards));
+        let (area, words) = lent_mut(area);
+        refusal(unsafe {
+            sheetbendle_open(image, image_bytes, table, cells, guards, guard_words, area, words)
+        })
     }
 
     #[inline]
-    fn gather(&self, image: &[u8], table: &[u32], area: &mut [u32], number: usize) -> Step {
-        let (image_bytes, cells, words) = (image.len(), table.len(), area.len());
-        let (image, table, area) = (image.as_ptr(), table.as_ptr(), area.as_mut_ptr());
-        step(unsafe { sheetbendle_gather(image, image_bytes, table, cells, area, words, number) })
+    fn gather(&self, image: &[u8], table: &[u32], guards: &[u32], area: &mut [u32], number: usize) -> Step {
+        let ((image, image_bytes), (table, cells), (guards, guard_words)) =
+            (lent(image), lent(table), lent(guards));
+        let (area, words) = lent_mut(area);
+        step(unsafe {
+            sheetbendle_gather(image, image_bytes, table, cells, guards, guard_words, area, words, number)
+        })
     }
 
     #[inline]
-    fn settle(&self, image: &[u8], table: &mut [u32], area: &mut [u32], number: usize) -> Step {
-        let (image_bytes, cells, words) = (image.len(), table.len(), area.len());
-        let (image, table, area) = (image.as_ptr(), table.as_mut_ptr(), area.as_mut_ptr());
-        step(unsafe { sheetbendle_settle(image, image_bytes, table, cells, area, words, number) })
+    fn settle(
+        &self,
+        image: &[u8],
+        table: &mut [u32],
+        guards: &[u32],
+        area: &mut [u32],
+        number: usize,
+    ) -> Step {
+        let ((image, image_bytes), (guards, guard_words)) = (lent(image), lent(guards));
+        let ((table, cells), (area, words)) = (lent_mut(table), lent_mut(area));
+        step(unsafe {
+            sheetbendle_settle(image, image_bytes, table, cells, guards, guard_words, area, words, number)
+        })
     }
 
     #[inline]
-    fn why(&self, image: &[u8], table: &[u32], area: &[u32], number: usize) -> Cause {
-        let (image_bytes, cells, words) = (image.len(), table.len(), area.len());
-        let (image, table, area) = (image.as_ptr(), table.as_ptr(), area.as_ptr());
-        cause(unsafe { sheetbendle_why(image, image_bytes, table, cells, area, words, number) })
+    fn why(&self, image: &[u8], table: &[u32], guards: &[u32], area: &[u32], number: usize) -> Cause {
+        let ((image, image_bytes), (table, cells), (guards, guard_words)) =
+            (lent(image), lent(table), lent(guards));
+        let (area, words) = lent(area);
+        cause(unsafe {
+            sheetbendle_why(image, image_bytes, table, cells, guards, guard_words, area, words, number)
+        })
     }
 
     #[inline]
-    fn order(&self, image: &[u8], table: &[u32], area: &[u32], list: &mut [u32]) -> Count {
-        let (image_bytes, cells, words, entries) = (image.len(), table.len(), area.len(), list.len());
-        let (image, table, area, list) = (image.as_ptr(), table.as_ptr(), area.as_ptr(), list.as_mut_ptr());
-        count(unsafe { sheetbendle_order(image, image_bytes, table, cells, area, words, list, entries) })
+    fn order(&self, image: &[u8], table: &[u32], guards: &[u32], area: &[u32], list: &mut [u32]) -> Count {
+        let ((image, image_bytes), (table, cells), (guards, guard_words)) =
+            (lent(image), lent(table), lent(guards));
+        let ((area, words), (list, entries)) = (lent(area), lent_mut(list));
+        count(unsafe {
+            sheetbendle_order(
+                image,
+                image_bytes,
+                table,
+                cells,
+                guards,
+                guard_words,
+                area,
+                words,
+                list,
+                entries,
+            )
+        })
     }
 
     #[inline]
-    fn next_image(&self, image: &[u8], table: &[u32], area: &[u32], fresh: &[u8], out: &mut [u8]) -> Count {
-        let (image_bytes, cells, words) = (image.len(), table.len(), area.len());
-        let (fresh_bytes, out_bytes) = (fresh.len(), out.len());
-        let (image, table, area) = (image.as_ptr(), table.as_ptr(), area.as_ptr());
-        let (fresh, out) = (fresh.as_ptr(), out.as_mut_ptr());
+    fn next_image(
+        &self,
+        image: &[u8],
+        table: &[u32],
+        guards: &[u32],
+        area: &[u32],
+        fresh: &[u8],
+        out: &mut [u8],
+    ) -> Count {
+        let ((image, image_bytes), (table, cells), (guards, guard_words)) =
+            (lent(image), lent(table), lent(guards));
+        let ((area, words), (fresh, fresh_bytes), (out, out_bytes)) =
+            (lent(area), lent(fresh), lent_mut(out));
         count(unsafe {
             sheetbendle_next_image(
                 image,
                 image_bytes,
                 table,
                 cells,
+                guards,
+                guard_words,
                 area,
                 words,
                 fresh,
@@ -167,15 +221,25 @@ impl Calls for Archive {
 
     #[inline]
     fn image_of(&self, sheet: &[u8], out: &mut [u8]) -> Text {
-        let (sheet_bytes, out_bytes) = (sheet.len(), out.len());
-        text(unsafe { sheetbendle_image_of(sheet.as_ptr(), sheet_bytes, out.as_mut_ptr(), out_bytes) })
+        let ((sheet, sheet_bytes), (out, out_bytes)) = (lent(sheet), lent_mut(out));
+        text(unsafe { sheetbendle_image_of(sheet, sheet_bytes, out, out_bytes) })
     }
 
     #[inline]
     fn sheet_of(&self, image: &[u8], out: &mut [u8]) -> Text {
-        let (image_bytes, out_bytes) = (image.len(), out.len());
-        text(unsafe { sheetbendle_sheet_of(image.as_ptr(), image_bytes, out.as_mut_ptr(), out_bytes) })
+        let ((image, image_bytes), (out, out_bytes)) = (lent(image), lent_mut(out));
+        text(unsafe { sheetbendle_sheet_of(image, image_bytes, out, out_bytes) })
     }
+}
+
+/// A slice as the calls take it: pointer and length.
+fn lent<T>(slice: &[T]) -> (*const T, usize) {
+    (slice.as_ptr(), slice.len())
+}
+
+/// The same for one that a call may change.
+fn lent_mut<T>(slice: &mut [T]) -> (*mut T, usize) {
+    (slice.as_mut_ptr(), slice.len())
 }
 
 fn refusal(CRefusal { number, program, instruction }: CRefusal) -> Refusal {

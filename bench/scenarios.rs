@@ -1,12 +1,15 @@
-//! What the benchmarks run: a full batch, a typical one, two that look through many stores, and a
-//! hostile one for the order; the longest sheet, and hostile ones.
+//! What the benchmarks run: a full batch, a typical one, the same under narrow guards, two that look
+//! through many stores, and a hostile one for the order; the longest sheet, and hostile ones. All but the
+//! guarded one are lent the full range.
 
 use material::assembler::{self, load, set, store, Instruction, R0, R1, R2};
 use material::random::{self, Random, Shape};
 use material::sheets;
 use plain::area::{words, CARRIED, CELLS, COMMITTED, GATHERED};
 use plain::area::{READS, READ_COUNT, SLOT_WORDS, STATE, STORES, STORE_COUNT};
+use plain::guards::{full_range, Guard};
 use plain::image::{INSTRUCTIONS, PROGRAMS};
+use plain::machine::{self, End, Fault};
 use plain::refusal::{DONE, LINE};
 use plain::Refusal;
 
@@ -27,6 +30,7 @@ pub struct Scenario {
     pub programs: usize,
     pub image: Vec<u8>,
     pub table: Vec<u32>,
+    pub guards: Vec<u32>,
     pub fresh: Vec<u8>,
     pub start: Start,
 }
@@ -78,7 +82,7 @@ pub fn sheets(bytes: usize) -> Vec<Sheet> {
 }
 
 pub fn all() -> Vec<Scenario> {
-    vec![full(), typical(), oldest(), by_turns(), hostile()]
+    vec![full(), typical(), guarded(), oldest(), by_turns(), hostile()]
 }
 
 /// The numbers of the programs that are to be settled.
@@ -112,7 +116,8 @@ fn batch(name: &'static str, shape: Shape, fresh: usize) -> Scenario {
     let table = random::table(&mut random, shape.cells);
     let image = assembler::image(2, &whole_programs(&mut random, shape, &table, shape.programs));
     let fresh = assembler::image(2, &whole_programs(&mut random, shape, &table, fresh));
-    Scenario { name, programs: shape.programs, image, table, fresh, start: Start::Opening }
+    let guards = full_range(table.len());
+    Scenario { name, programs: shape.programs, image, table, guards, fresh, start: Start::Opening }
 }
 
 /// Programs that run on to a good end: none is rejected or faulted.
@@ -122,11 +127,43 @@ fn whole_programs(random: &mut Random, shape: Shape, table: &[u32], count: usize
         let program = random::program_of_length(random, shape, shape.instructions);
         let image = assembler::image(0, &[program.clone()]);
         let mut area = vec![0; words(table.len(), 1)];
-        if plain::gather(&image, table, &mut area, 0).state == GATHERED {
+        if plain::gather(&image, table, &full_range(table.len()), &mut area, 0).state == GATHERED {
             programs.push(program);
         }
     }
     programs
+}
+
+/// The typical batch, in which each cell's guard is as tight as the programs' stores allow: what it takes more
+/// than under the full range is what the comparing takes.
+fn guarded() -> Scenario {
+    let mut scenario = typical();
+    scenario.name = "A guarded batch: the typical one, each guard as tight as the stores allow";
+    scenario.guards = tightest_guards(&scenario);
+    scenario
+}
+
+/// The tightest guards under which no program of a scenario faults. Each is closed at first, and is widened for
+/// every value that breaks it. A cell that no program stores stays closed.
+fn tightest_guards(scenario: &Scenario) -> Vec<u32> {
+    let mut guards = Guard { low: i32::MAX, high: i32::MIN }.pair().repeat(scenario.table.len());
+    for number in 0..scenario.programs {
+        while let Some((cell, value)) = broken_guard(scenario, &guards, number) {
+            let Guard { low, high } = Guard::of(&guards, cell);
+            let wider = Guard { low: low.min(value), high: high.max(value) };
+            guards[plain::guards::words(cell as usize)..][..2].copy_from_slice(&wider.pair());
+        }
+    }
+    guards
+}
+
+/// The cell and the value at which a program of a scenario faults at a guard, if it does.
+fn broken_guard(scenario: &Scenario, guards: &[u32], number: usize) -> Option<(u32, i32)> {
+    let program = plain::program(&scenario.image, number);
+    match machine::run_apart(program, &scenario.table, guards).0 {
+        End::Faulted { fault: Fault::AtGuard { cell, value }, .. } => Some((cell, value as i32)),
+        _ => None,
+    }
 }
 
 /// How many cells a program stores that then loads the first of them. Each new cell number takes an
@@ -155,7 +192,8 @@ fn alike(name: &'static str, program: Vec<Instruction>) -> Scenario {
     let table = (1..=CELLS as u32).collect();
     let image = assembler::image(2, &vec![program; PROGRAMS]);
     let fresh = assembler::image(2, &[]);
-    Scenario { name, programs: PROGRAMS, image, table, fresh, start: Start::Opening }
+    let guards = full_range(CELLS);
+    Scenario { name, programs: PROGRAMS, image, table, guards, fresh, start: Start::Opening }
 }
 
 /// 64 committed programs with 32 reads and 32 stores each. Program i+1 reads, last of all, the cell

@@ -5,11 +5,13 @@ mod bad;
 mod driven;
 mod scenarios;
 
-use archive::{bytes, Archive, Measure};
-use material::assembler::{self, reject};
-use plain::refusal::DONE;
-use plain::sheet;
-use scenarios::{Scenario, CALLS, SHEET_OF};
+use archive::{bytes, words, Archive, Measure};
+use material::assembler::{self, guards, load, reject, store, R0, R1};
+use plain::area::{self, FAULTED};
+use plain::image::LONGEST;
+use plain::refusal::{DONE, GUARDS};
+use plain::{sheet, Refusal};
+use scenarios::{Scenario, CALLS, GATHER, SHEET_OF};
 
 /// The calls, in the order of the header's table.
 const NAMES: [&str; 10] = [
@@ -50,6 +52,40 @@ fn three_digits(archive: &mut Archive, mut note: impl FnMut(&'static str, u64)) 
     note(CALLS[SHEET_OF], archive.measured.unwrap_or(0));
 }
 
+/// A store that its cell's guard does not allow.
+fn broken_guard(archive: &mut Archive, mut note: impl FnMut(&'static str, u64)) {
+    let image = &mut bytes(&assembler::image(2, &[vec![load(R1, R0), store(R0, R1)]]));
+    let (table, guards) = (&mut words(&[0]), &mut words(&guards(&[(1, 0)])));
+    let area = &mut words(&vec![0; area::words(1, 1)]);
+    archive.measure = Measure::Stack;
+    assert_eq!(archive.gather(image, table, guards, area, 0).state, FAULTED);
+    note(CALLS[GATHER], archive.measured.unwrap_or(0));
+}
+
+/// Guards that are not T pairs, at every call that is lent them.
+fn short_guards(archive: &mut Archive, mut note: impl FnMut(&'static str, u64)) {
+    let (image, fresh) = (&mut bytes(&assembler::image(2, &[])), &mut bytes(&assembler::image(2, &[])));
+    let (table, guards, area) = (&mut words(&[0]), &mut words(&[0]), &mut words(&vec![0; area::words(1, 0)]));
+    let (list, out) = (&mut words(&[]), &mut bytes(&[0; LONGEST]));
+    archive.measure = Measure::Stack;
+    let mut refused = |call: &'static str, answer: Refusal, measured: Option<u64>| {
+        assert_eq!(answer, GUARDS, "{call} refuses guards that are not T pairs");
+        note(call, measured.unwrap_or(0));
+    };
+    let answer = archive.open(image, table, guards, area);
+    refused("open", answer, archive.measured);
+    let answer = archive.gather(image, table, guards, area, 0).refusal;
+    refused("gather", answer, archive.measured);
+    let answer = archive.settle(image, table, guards, area, 0).refusal;
+    refused("settle", answer, archive.measured);
+    let answer = archive.why(image, table, guards, area, 0).refusal;
+    refused("why", answer, archive.measured);
+    let answer = archive.order(image, table, guards, area, list).refusal;
+    refused("order", answer, archive.measured);
+    let answer = archive.next_image(image, table, guards, area, fresh, out).refusal;
+    refused("next_image", answer, archive.measured);
+}
+
 fn main() {
     let driver: Vec<String> = std::env::args().skip(1).collect();
     let archive = &mut Archive::start(&driver);
@@ -66,6 +102,8 @@ fn main() {
         driven::run_sheet(archive, &scenario, Measure::Stack, |call, bytes| note(CALLS[call], bytes));
     }
     three_digits(archive, &mut note);
+    broken_guard(archive, &mut note);
+    short_guards(archive, &mut note);
     bad::run(archive, &mut note);
     println!("Deepest stack of each call in bytes, with the inputs that take most, found by painting it:");
     println!("from the caller's frame down, arguments that lie there and the return address included.");

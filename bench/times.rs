@@ -27,12 +27,27 @@ const HOSTILE: usize = 1 << 20;
 
 /// The calls of one side.
 trait Calls {
-    fn open(&self, image: &[u8], table: &[u32], area: &mut [u32]) -> Refusal;
-    fn gather(&self, image: &[u8], table: &[u32], area: &mut [u32], number: usize) -> Step;
-    fn settle(&self, image: &[u8], table: &mut [u32], area: &mut [u32], number: usize) -> Step;
-    fn why(&self, image: &[u8], table: &[u32], area: &[u32], number: usize) -> Cause;
-    fn order(&self, image: &[u8], table: &[u32], area: &[u32], list: &mut [u32]) -> Count;
-    fn next_image(&self, image: &[u8], table: &[u32], area: &[u32], fresh: &[u8], out: &mut [u8]) -> Count;
+    fn open(&self, image: &[u8], table: &[u32], guards: &[u32], area: &mut [u32]) -> Refusal;
+    fn gather(&self, image: &[u8], table: &[u32], guards: &[u32], area: &mut [u32], number: usize) -> Step;
+    fn settle(
+        &self,
+        image: &[u8],
+        table: &mut [u32],
+        guards: &[u32],
+        area: &mut [u32],
+        number: usize,
+    ) -> Step;
+    fn why(&self, image: &[u8], table: &[u32], guards: &[u32], area: &[u32], number: usize) -> Cause;
+    fn order(&self, image: &[u8], table: &[u32], guards: &[u32], area: &[u32], list: &mut [u32]) -> Count;
+    fn next_image(
+        &self,
+        image: &[u8],
+        table: &[u32],
+        guards: &[u32],
+        area: &[u32],
+        fresh: &[u8],
+        out: &mut [u8],
+    ) -> Count;
     fn image_of(&self, sheet: &[u8], out: &mut [u8]) -> Text;
     fn sheet_of(&self, image: &[u8], out: &mut [u8]) -> Text;
 }
@@ -40,23 +55,38 @@ trait Calls {
 struct Plain;
 
 impl Calls for Plain {
-    fn open(&self, image: &[u8], table: &[u32], area: &mut [u32]) -> Refusal {
-        plain::open(image, table, area)
+    fn open(&self, image: &[u8], table: &[u32], guards: &[u32], area: &mut [u32]) -> Refusal {
+        plain::open(image, table, guards, area)
     }
-    fn gather(&self, image: &[u8], table: &[u32], area: &mut [u32], number: usize) -> Step {
-        plain::gather(image, table, area, number)
+    fn gather(&self, image: &[u8], table: &[u32], guards: &[u32], area: &mut [u32], number: usize) -> Step {
+        plain::gather(image, table, guards, area, number)
     }
-    fn settle(&self, image: &[u8], table: &mut [u32], area: &mut [u32], number: usize) -> Step {
-        plain::settle(image, table, area, number)
+    fn settle(
+        &self,
+        image: &[u8],
+        table: &mut [u32],
+        guards: &[u32],
+        area: &mut [u32],
+        number: usize,
+    ) -> Step {
+        plain::settle(image, table, guards, area, number)
     }
-    fn why(&self, image: &[u8], table: &[u32], area: &[u32], number: usize) -> Cause {
-        plain::why(image, table, area, number)
+    fn why(&self, image: &[u8], table: &[u32], guards: &[u32], area: &[u32], number: usize) -> Cause {
+        plain::why(image, table, guards, area, number)
     }
-    fn order(&self, image: &[u8], table: &[u32], area: &[u32], list: &mut [u32]) -> Count {
-        plain::order(image, table, area, list)
+    fn order(&self, image: &[u8], table: &[u32], guards: &[u32], area: &[u32], list: &mut [u32]) -> Count {
+        plain::order(image, table, guards, area, list)
     }
-    fn next_image(&self, image: &[u8], table: &[u32], area: &[u32], fresh: &[u8], out: &mut [u8]) -> Count {
-        plain::next_image(image, table, area, fresh, out)
+    fn next_image(
+        &self,
+        image: &[u8],
+        table: &[u32],
+        guards: &[u32],
+        area: &[u32],
+        fresh: &[u8],
+        out: &mut [u8],
+    ) -> Count {
+        plain::next_image(image, table, guards, area, fresh, out)
     }
     fn image_of(&self, sheet: &[u8], out: &mut [u8]) -> Text {
         plain::image_of(sheet, out)
@@ -88,24 +118,26 @@ impl Memory {
 
 /// Runs the batch once on one side, and takes the nanoseconds of each kind of call.
 fn run(calls: &impl Calls, scenario: &Scenario, memory: &mut Memory) -> Figures {
-    let Scenario { image, fresh, programs, .. } = scenario;
+    let Scenario { image, guards, fresh, programs, .. } = scenario;
     let Memory { table, area, list, out } = memory;
     table.copy_from_slice(&scenario.table);
     let mut times = [None; CALLS.len()];
     if let Start::Opening = scenario.start {
-        times[OPEN] = Some(per_call(REPEATS, |_| done(calls.open(image, table, area))));
-        let gather = |number: usize| done(calls.gather(image, table, area, number).refusal);
+        times[OPEN] = Some(per_call(REPEATS, |_| done(calls.open(image, table, guards, area))));
+        let gather = |number: usize| done(calls.gather(image, table, guards, area, number).refusal);
         times[GATHER] = Some(per_call(*programs, gather));
         let gathered = gathered_programs(area, table.len());
-        let settle = |place: usize| done(calls.settle(image, table, area, gathered[place]).refusal);
+        let settle = |place: usize| done(calls.settle(image, table, guards, area, gathered[place]).refusal);
         times[SETTLE] = Some(per_call(gathered.len(), settle));
         let carried = carried_programs(area, table.len());
-        let why = |place: usize| done(calls.why(image, table, area, carried[place % carried.len()]).refusal);
+        let why = |place: usize| {
+            done(calls.why(image, table, guards, area, carried[place % carried.len()]).refusal)
+        };
         times[WHY] = Some(per_call(REPEATS * carried.len(), why));
     }
-    times[ORDER] = Some(per_call(REPEATS, |_| done(calls.order(image, table, area, list).refusal)));
+    times[ORDER] = Some(per_call(REPEATS, |_| done(calls.order(image, table, guards, area, list).refusal)));
     times[NEXT_IMAGE] =
-        Some(per_call(REPEATS, |_| done(calls.next_image(image, table, area, fresh, out).refusal)));
+        Some(per_call(REPEATS, |_| done(calls.next_image(image, table, guards, area, fresh, out).refusal)));
     times
 }
 

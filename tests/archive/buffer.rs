@@ -1,6 +1,6 @@
-//! The memory that is lent to the calls, each buffer between two guards.
+//! The memory that is lent to the calls, each buffer between two fences.
 
-const GUARD: usize = 16;
+const FENCE: usize = 16;
 
 /// A buffer in the middle of a longer one. What lies around it is never lent and must not change.
 #[derive(Clone, PartialEq)]
@@ -9,25 +9,25 @@ pub struct Buffer<T> {
 }
 
 impl<T: Copy + PartialEq> Buffer<T> {
-    fn between(guard: T, lent: &[T]) -> Buffer<T> {
-        let guards = [guard; GUARD];
-        Buffer { all: [&guards[..], lent, &guards[..]].concat() }
+    fn between(fence: T, lent: &[T]) -> Buffer<T> {
+        let fences = [fence; FENCE];
+        Buffer { all: [&fences[..], lent, &fences[..]].concat() }
     }
 
     pub fn lent(&self) -> &[T] {
-        &self.all[GUARD..self.all.len() - GUARD]
+        &self.all[FENCE..self.all.len() - FENCE]
     }
 
     pub fn lent_mut(&mut self) -> &mut [T] {
-        let end = self.all.len() - GUARD;
-        &mut self.all[GUARD..end]
+        let end = self.all.len() - FENCE;
+        &mut self.all[FENCE..end]
     }
 
     /// Where this buffer first differs from another of the same length, counted from the first
-    /// lent element: below 0 or past the end it is a guard's.
+    /// lent element: below 0 or past the end it is a fence's.
     pub fn first_difference(&self, other: &Buffer<T>) -> Option<isize> {
         let place = self.all.iter().zip(&other.all).position(|(one, other)| one != other)?;
-        Some(place as isize - GUARD as isize)
+        Some(place as isize - FENCE as isize)
     }
 }
 
@@ -39,12 +39,12 @@ pub fn words(lent: &[u32]) -> Buffer<u32> {
     Buffer::between(0xA5A5_A5A5, lent)
 }
 
-/// A buffer that a frame carries, with its guards.
+/// A buffer that a frame carries, with its fences.
 pub trait Carried {
     /// How many elements are lent.
     fn length(&self) -> usize;
-    /// How many bytes of the guard lie before them.
-    fn guard_bytes(&self) -> usize;
+    /// How many bytes of the fence lie before them.
+    fn fence_bytes(&self) -> usize;
     fn append_to(&self, memory: &mut Vec<u8>);
     /// Takes everything from the front of the memory; returns the rest.
     fn take_from<'a>(&mut self, memory: &'a [u8]) -> &'a [u8];
@@ -55,8 +55,8 @@ impl Carried for Buffer<u8> {
         self.lent().len()
     }
 
-    fn guard_bytes(&self) -> usize {
-        GUARD
+    fn fence_bytes(&self) -> usize {
+        FENCE
     }
 
     fn append_to(&self, memory: &mut Vec<u8>) {
@@ -75,8 +75,8 @@ impl Carried for Buffer<u32> {
         self.lent().len()
     }
 
-    fn guard_bytes(&self) -> usize {
-        GUARD * size_of::<u32>()
+    fn fence_bytes(&self) -> usize {
+        FENCE * size_of::<u32>()
     }
 
     fn append_to(&self, memory: &mut Vec<u8>) {

@@ -1,7 +1,7 @@
 /*
  * Makes the archive's calls for a process that cannot link it: each call comes as one frame on
  * standard input and goes back as one frame on standard output. The lent buffers lie inside the
- * frame, each between guards, and the whole frame goes back as the call left it. So this program
+ * frame, each between fences, and the whole frame goes back as the call left it. So this program
  * compares nothing: whoever sent the frame sees every byte that changed. tests/archive/frame.rs is
  * the other end.
  */
@@ -11,7 +11,7 @@
 #include <unistd.h>
 
 enum { PROGRAM, PROGRAM_REFUSAL, OPEN, GATHER, SETTLE, WHY, ORDER, NEXT_IMAGE, IMAGE_OF, SHEET_OF };
-enum { TABLE, AREA, LIST, IMAGE, FRESH, SHEET, OUT, BUFFERS };
+enum { TABLE, GUARDS, AREA, LIST, IMAGE, FRESH, SHEET, OUT, BUFFERS };
 enum { NOTHING, STACK, INSTRUCTIONS };
 
 /* A call that takes more seconds than this is taken to hang, and ends this program. Counting instructions may take long. */
@@ -21,7 +21,7 @@ enum { NOTHING, STACK, INSTRUCTIONS };
 /* The most numbers that a call returns: three of a refusal, and five behind them. */
 #define RESULTS 8
 
-/* Room for the largest buffers that are lent, with their guards: a sheet of more than a megabyte is the largest. */
+/* Room for the largest buffers that are lent, with their fences: a sheet of more than a megabyte is the largest. */
 #define ROOM (2 * 1024 * 1024)
 
 static struct {
@@ -43,6 +43,9 @@ static void *place(int buffer) {
 
 /* A buffer as the calls take it: pointer and length. */
 #define LENT(buffer) place(buffer), frame.lent[buffer].length
+
+/* What every call of a batch is lent first. */
+#define BATCH LENT(IMAGE), LENT(TABLE), LENT(GUARDS), LENT(AREA)
 
 static void refusal_results(sheetbendle_refusal refusal) {
     frame.results[0] = refusal.number;
@@ -86,14 +89,12 @@ static inline __attribute__((always_inline)) void make_call(void) {
     switch (frame.call) {
     case PROGRAM: part_results(sheetbendle_program(LENT(IMAGE), frame.number)); break;
     case PROGRAM_REFUSAL: refusal_results(sheetbendle_program_refusal(LENT(IMAGE), frame.number)); break;
-    case OPEN: refusal_results(sheetbendle_open(LENT(IMAGE), LENT(TABLE), LENT(AREA))); break;
-    case GATHER: step_results(sheetbendle_gather(LENT(IMAGE), LENT(TABLE), LENT(AREA), frame.number)); break;
-    case SETTLE: step_results(sheetbendle_settle(LENT(IMAGE), LENT(TABLE), LENT(AREA), frame.number)); break;
-    case WHY: cause_results(sheetbendle_why(LENT(IMAGE), LENT(TABLE), LENT(AREA), frame.number)); break;
-    case ORDER: count_results(sheetbendle_order(LENT(IMAGE), LENT(TABLE), LENT(AREA), LENT(LIST))); break;
-    case NEXT_IMAGE:
-        count_results(sheetbendle_next_image(LENT(IMAGE), LENT(TABLE), LENT(AREA), LENT(FRESH), LENT(OUT)));
-        break;
+    case OPEN: refusal_results(sheetbendle_open(BATCH)); break;
+    case GATHER: step_results(sheetbendle_gather(BATCH, frame.number)); break;
+    case SETTLE: step_results(sheetbendle_settle(BATCH, frame.number)); break;
+    case WHY: cause_results(sheetbendle_why(BATCH, frame.number)); break;
+    case ORDER: count_results(sheetbendle_order(BATCH, LENT(LIST))); break;
+    case NEXT_IMAGE: count_results(sheetbendle_next_image(BATCH, LENT(FRESH), LENT(OUT))); break;
     case IMAGE_OF: text_results(sheetbendle_image_of(LENT(SHEET), LENT(OUT))); break;
     case SHEET_OF: text_results(sheetbendle_sheet_of(LENT(IMAGE), LENT(OUT))); break;
     }

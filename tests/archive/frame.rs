@@ -21,6 +21,7 @@ pub enum Call {
 #[derive(Clone, Copy)]
 pub enum Name {
     Table,
+    Guards,
     Area,
     List,
     Image,
@@ -68,7 +69,7 @@ impl Frame {
         let mut memory = Vec::new();
         for (name, buffer) in lent {
             let place = LENT + 2 * *name as usize;
-            head[place] = (memory.len() + buffer.guard_bytes()) as u64;
+            head[place] = (memory.len() + buffer.fence_bytes()) as u64;
             head[place + 1] = buffer.length() as u64;
             buffer.append_to(&mut memory);
         }
@@ -87,7 +88,7 @@ impl Frame {
     }
 
     /// Takes over what came back. Only the results may have changed in the head: it lies before the
-    /// first guard.
+    /// first fence.
     pub fn take(&mut self, bytes: &[u8]) {
         let (head, memory) = bytes.split_at(size_of_val(&self.head));
         for (place, (word, bytes)) in self.head.iter_mut().zip(head.chunks_exact(8)).enumerate() {

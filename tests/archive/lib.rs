@@ -19,7 +19,7 @@ pub struct Archive {
     driver: Child,
     calls: ChildStdin,
     answers: ChildStdout,
-    /// A buffer of length 0 is passed as a null pointer; otherwise as a pointer between its guards.
+    /// A buffer of length 0 is passed as a null pointer; otherwise as a pointer between its fences.
     pub null_when_empty: bool,
     /// What is measured at each call.
     pub measure: Measure,
@@ -63,7 +63,7 @@ impl Archive {
 }
 
 // Every buffer is lent for changes, also where the header says const: it comes back as the call
-// left it, guards and all, so that a change where none may be is seen.
+// left it, fences and all, so that a change where none may be is seen.
 impl Archive {
     /// Where the program lies in the image; 0..0 on a refusal.
     pub fn program(&mut self, image: &mut Buffer<u8>, number: usize) -> Range<usize> {
@@ -79,62 +79,77 @@ impl Archive {
         &mut self,
         image: &mut Buffer<u8>,
         table: &mut Buffer<u32>,
+        guards: &mut Buffer<u32>,
         area: &mut Buffer<u32>,
     ) -> Refusal {
-        refusal(self.batch_call(Call::Open, image, table, area, 0))
+        refusal(self.batch_call(Call::Open, image, table, guards, area, 0))
     }
 
     pub fn gather(
         &mut self,
         image: &mut Buffer<u8>,
         table: &mut Buffer<u32>,
+        guards: &mut Buffer<u32>,
         area: &mut Buffer<u32>,
         number: usize,
     ) -> Step {
-        step(self.batch_call(Call::Gather, image, table, area, number))
+        step(self.batch_call(Call::Gather, image, table, guards, area, number))
     }
 
     pub fn settle(
         &mut self,
         image: &mut Buffer<u8>,
         table: &mut Buffer<u32>,
+        guards: &mut Buffer<u32>,
         area: &mut Buffer<u32>,
         number: usize,
     ) -> Step {
-        step(self.batch_call(Call::Settle, image, table, area, number))
+        step(self.batch_call(Call::Settle, image, table, guards, area, number))
     }
 
     pub fn why(
         &mut self,
         image: &mut Buffer<u8>,
         table: &mut Buffer<u32>,
+        guards: &mut Buffer<u32>,
         area: &mut Buffer<u32>,
         number: usize,
     ) -> Cause {
-        cause(self.batch_call(Call::Why, image, table, area, number))
+        cause(self.batch_call(Call::Why, image, table, guards, area, number))
     }
 
-    /// A call that is lent image, table and area alone.
+    /// A call that is lent image, table, guards and area alone.
     fn batch_call(
         &mut self,
         call: Call,
         image: &mut Buffer<u8>,
         table: &mut Buffer<u32>,
+        guards: &mut Buffer<u32>,
         area: &mut Buffer<u32>,
         number: usize,
     ) -> Results {
-        self.call(call, number, &mut [(Name::Table, table), (Name::Area, area), (Name::Image, image)])
+        self.call(
+            call,
+            number,
+            &mut [(Name::Table, table), (Name::Guards, guards), (Name::Area, area), (Name::Image, image)],
+        )
     }
 
     pub fn order(
         &mut self,
         image: &mut Buffer<u8>,
         table: &mut Buffer<u32>,
+        guards: &mut Buffer<u32>,
         area: &mut Buffer<u32>,
         list: &mut Buffer<u32>,
     ) -> Count {
-        let lent: &mut [Lent] =
-            &mut [(Name::Table, table), (Name::Area, area), (Name::List, list), (Name::Image, image)];
+        let lent: &mut [Lent] = &mut [
+            (Name::Table, table),
+            (Name::Guards, guards),
+            (Name::Area, area),
+            (Name::List, list),
+            (Name::Image, image),
+        ];
         count(self.call(Call::Order, 0, lent))
     }
 
@@ -142,12 +157,14 @@ impl Archive {
         &mut self,
         image: &mut Buffer<u8>,
         table: &mut Buffer<u32>,
+        guards: &mut Buffer<u32>,
         area: &mut Buffer<u32>,
         fresh: &mut Buffer<u8>,
         out: &mut Buffer<u8>,
     ) -> Count {
         let lent: &mut [Lent] = &mut [
             (Name::Table, table),
+            (Name::Guards, guards),
             (Name::Area, area),
             (Name::Image, image),
             (Name::Fresh, fresh),

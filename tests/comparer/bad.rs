@@ -12,6 +12,7 @@ use material::bad::{self, following, places, replaced, Place, TYPED_WAYS, WAYS};
 use material::case::Program;
 use material::random::{self, Random, Shape};
 use plain::area::{self, COMMITTED, STATE};
+use plain::guards::full_range;
 use plain::image::{INSTRUCTIONS, LONGEST, PROGRAMS};
 use plain::Refusal;
 
@@ -93,6 +94,7 @@ fn settled(image: &[u8], programs: usize) -> Lent {
     Lent {
         image: bytes(image),
         table: words(&[0; CELLS]),
+        guards: words(&full_range(CELLS)),
         area: words(&area),
         list: words(&[0; PROGRAMS]),
         out: bytes(&[0xEE; LONGEST]),

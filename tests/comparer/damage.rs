@@ -7,17 +7,19 @@ use material::assembler::{self, end, Instruction};
 use material::bad::{self, WAYS};
 use material::random::Random;
 use plain::area::{self, CARRIED, DETAIL, READS, READ_COUNT, SLOT_WORDS, STATE, STORES, STORE_COUNT, VALUES};
+use plain::guards;
 use plain::image::{INSTRUCTIONS, INSTRUCTION_BYTES, LONGEST};
 
 /// Damages one or two of the things lent, which are those of a good image of so many programs.
 pub fn damage(random: &mut Random, lent: &mut Lent, programs: usize) {
     for _ in 0..random.pick(&[1, 1, 1, 2]) {
-        match random.below(8) {
+        match random.below(9) {
             0 | 1 => lent.image = bytes(&damaged_image(random, lent.image.lent())),
             2 => resize_table(random, lent, programs),
             3 => resize_area(random, lent),
             4 | 5 => damage_area(random, lent),
             6 => resize_list(random, lent, programs),
+            7 => resize_guards(random, lent),
             _ => lent.fresh = bytes(&damaged_image(random, lent.fresh.lent())),
         }
     }
@@ -85,14 +87,28 @@ fn odd_instruction(random: &mut Random) -> Instruction {
     instruction
 }
 
-/// A table of another size; sometimes with the area that belongs to it.
+/// A table of another size; sometimes with the guards that belong to it, and with the area.
 fn resize_table(random: &mut Random, lent: &mut Lent, programs: usize) {
     let cells = lent.table.lent().len();
     let resized = random.pick(&[0, 257, 300, cells + 1, cells.saturating_sub(1)]);
     lent.table = words(&made_up::junk(random, resized));
     if random.percent(60) {
+        lent.guards = words(&made_up::junk(random, guards::words(resized)));
+    }
+    if random.percent(60) {
         lent.area = words(&made_up::junk(random, area::words(resized, programs)));
     }
+}
+
+/// Guards of another size: a word or a pair too few or too many, one word a cell, or none; with what they
+/// held as far as it goes.
+fn resize_guards(random: &mut Random, lent: &mut Lent) {
+    let cells = lent.table.lent().len();
+    let whole = guards::words(cells);
+    let sizes = [whole.saturating_sub(1), whole + 1, whole.saturating_sub(2), whole + 2, cells, 0];
+    let mut guards = lent.guards.lent().to_vec();
+    guards.resize(random.pick(&sizes), random.word());
+    lent.guards = words(&guards);
 }
 
 /// An area of another size, with what it held as far as it goes.

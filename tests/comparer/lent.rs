@@ -7,6 +7,7 @@ use archive::Buffer;
 pub struct Lent {
     pub image: Buffer<u8>,
     pub table: Buffer<u32>,
+    pub guards: Buffer<u32>,
     pub area: Buffer<u32>,
     pub list: Buffer<u32>,
     pub fresh: Buffer<u8>,
@@ -20,6 +21,7 @@ impl Lent {
         let places = [
             ("image", self.image.first_difference(&other.image)),
             ("table", self.table.first_difference(&other.table)),
+            ("guards", self.guards.first_difference(&other.guards)),
             ("area", self.area.first_difference(&other.area)),
             ("list", self.list.first_difference(&other.list)),
             ("fresh", self.fresh.first_difference(&other.fresh)),

@@ -1,4 +1,4 @@
-//! Made-up memory: tables and images of many sizes, and areas that no call made but that pass
+//! Made-up memory: tables, guards and images of many sizes, and areas that no call made but that pass
 //! check 7, knots among them.
 
 use material::assembler::{self, load, set, store, R0};
@@ -6,6 +6,7 @@ use material::case::Program;
 use material::random::{self, Random, Shape};
 use plain::area::{self, CARRIED, CELLS, COMMITTED, GATHERED, REJECTED, WAITING};
 use plain::area::{DETAIL, READS, READ_COUNT, SLOT_WORDS, STATE, STORES, STORE_COUNT};
+use plain::guards::full_range;
 use plain::image::{INSTRUCTIONS, PROGRAMS};
 use plain::steps::RAW_WITH_WAR;
 use std::ops::Range;
@@ -28,6 +29,26 @@ pub fn programs(random: &mut Random) -> usize {
         1 => PROGRAMS,
         2..=4 => random.between(13, PROGRAMS),
         _ => random.between(1, 12),
+    }
+}
+
+/// A table of so many cells. One in five holds a number at which the sign turns, or the one next to it.
+pub fn table(random: &mut Random, cells: usize) -> Vec<u32> {
+    let mut table = random::table(random, cells);
+    for cell in &mut table {
+        if random.percent(20) {
+            *cell = random.pick(&[i32::MIN, i32::MIN + 1, -1, 0, i32::MAX - 1, i32::MAX]) as u32;
+        }
+    }
+    table
+}
+
+/// A guard list for this table. One in three is of the full range alone, as most callers will have it.
+pub fn guards(random: &mut Random, table: &[u32]) -> Vec<u32> {
+    if random.percent(33) {
+        full_range(table.len())
+    } else {
+        random::guards(random, table)
     }
 }
 

@@ -1,5 +1,5 @@
 //! Holds the archive against the independent implementation on random call sequences: every answer
-//! and all lent memory, with guards around it, after every call.
+//! and all lent memory, with fences around it, after every call.
 //! Usage: comparer SEED COUNT FILE DRIVER.. Sequence k has seed SEED + k, which decides all of it;
 //! the file always holds the seed of the sequence under way; the rest is the command that runs the
 //! archive's driver.
@@ -9,6 +9,7 @@ mod calls;
 mod damage;
 mod lent;
 mod made_up;
+mod met;
 mod pair;
 mod places;
 mod sequences;

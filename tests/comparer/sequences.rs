@@ -1,6 +1,6 @@
 //! Random call sequences: batches played in any order with refused steps in between, one after the
-//! other by the next image; areas made up; damage to everything that is lent; sheets; and bad
-//! instructions.
+//! other by the next image, on tables with guards; areas made up; damage to everything that is lent;
+//! sheets; and bad instructions.
 
 use crate::bad;
 use crate::calls::{Answer, Call};
@@ -11,7 +11,7 @@ use crate::pair::{Difference, Pair};
 use crate::sheets;
 use crate::tally::Tally;
 use archive::{bytes, words, Archive};
-use material::random::{self, Random};
+use material::random::Random;
 use plain::area::{self, CARRIED, GATHERED, WAITING};
 use plain::image::{Image, LONGEST, PROGRAMS};
 use plain::refusal::DONE;
@@ -36,12 +36,14 @@ pub fn run(seed: u64, archive: &mut Archive, tally: &mut Tally) -> Result<(), Di
     }
 }
 
-/// A good image and a table; an area of the right size that holds junk.
+/// A good image, a table and its guards; an area of the right size that holds junk.
 fn first_lent(random: &mut Random, cells: usize, programs: usize) -> Lent {
     let fresh_programs = random.below(5);
+    let table = made_up::table(random, cells);
     Lent {
         image: bytes(&made_up::image(random, cells, programs)),
-        table: words(&random::table(random, cells)),
+        guards: words(&made_up::guards(random, &table)),
+        table: words(&table),
         area: words(&made_up::junk(random, area::words(cells, programs))),
         list: words(&made_up::junk(random, programs + 1)),
         fresh: bytes(&made_up::image(random, cells, fresh_programs)),
@@ -111,7 +113,8 @@ fn play(random: &mut Random, pair: &mut Pair) -> Result<(), Difference> {
                 pair.call(call)?;
             }
             80..=97 => call_on_damaged(random, pair)?,
-            _ => change_a_cell(random, pair),
+            98 => change_a_cell(random, pair),
+            _ => change_the_guards(random, pair),
         }
     }
     Ok(())
@@ -133,6 +136,13 @@ fn change_a_cell(random: &mut Random, pair: &mut Pair) {
     let mut lent = pair.lent().clone();
     let cell = random.below(lent.table.lent().len());
     lent.table.lent_mut()[cell] = random.word();
+    pair.lend(lent);
+}
+
+/// The caller lends other guards: the calls know only those that they are lent.
+fn change_the_guards(random: &mut Random, pair: &mut Pair) {
+    let mut lent = pair.lent().clone();
+    lent.guards = words(&made_up::guards(random, lent.table.lent()));
     pair.lend(lent);
 }
 
@@ -197,7 +207,8 @@ fn renew_fresh_and_out(random: &mut Random, pair: &mut Pair) {
     let programs = random.pick(&[0, 1, 2, 3, 3, 3, room, room + 1]).min(PROGRAMS);
     let fresh = made_up::image(random, cells, programs);
     let out = &mut [0; LONGEST];
-    let next = plain::next_image(lent.image.lent(), lent.table.lent(), lent.area.lent(), &fresh, out);
+    let (table, guards) = (lent.table.lent(), lent.guards.lent());
+    let next = plain::next_image(lent.image.lent(), table, guards, lent.area.lent(), &fresh, out);
     let length = next.count as usize;
     let lengths = [0, length.saturating_sub(1), length, length + 3, LONGEST, LONGEST];
     lent.fresh = bytes(&fresh);

@@ -46,6 +46,7 @@ pub fn nothing_lent() -> Lent {
     Lent {
         image: bytes(&[]),
         table: words(&[]),
+        guards: words(&[]),
         area: words(&[]),
         list: words(&[]),
         fresh: bytes(&[]),

@@ -1,12 +1,13 @@
-//! What was seen: how often each call gave each refusal, at which places it named a bad instruction, and
-//! how often each outcome came.
+//! What was seen: how often each call gave each refusal, at which places it named a bad instruction, how
+//! often each outcome came, and what of a guard its stores met.
 
 use crate::calls::{Answer, Call};
 use crate::lent::Lent;
+use crate::met::{self, MEETINGS};
 use crate::places::{names_an_instruction, Place};
 use material::bad::{TYPED_WAYS, WAYS};
 use plain::area::{CARRIED, COMMITTED, FAULTED, GATHERED, REJECTED};
-use plain::machine::{FAULT_AT_LOAD, FAULT_AT_STORE};
+use plain::machine::{FAULT_AT_GUARD, FAULT_AT_LOAD, FAULT_AT_STORE};
 use plain::refusal::{self, DONE};
 use plain::steps::{RAW, RAW_WITH_WAR, WAW};
 use plain::Refusal;
@@ -14,11 +15,11 @@ use std::collections::{BTreeMap, BTreeSet};
 use std::fmt;
 
 /// Each call with the numbers of the refusals that it can give: document 01, "What each refusal says",
-/// and requests 1 to 3 of document 02.
+/// and requests 1 to 3 and 5 of document 02.
 fn refusals() -> [(&'static str, BTreeSet<u32>); 10] {
     let of_image = [&[refusal::IMAGE_SIZE, refusal::HEADER, refusal::OFFSETS], &WAYS[..]].concat();
     let program = [&[DONE], &of_image[..], &[refusal::NUMBER]].concat();
-    let open = [&[DONE], &of_image[..], &[refusal::TABLE_SIZE, refusal::AREA_SIZE]].concat();
+    let open = [&[DONE], &of_image[..], &[refusal::TABLE_SIZE, refusal::GUARDS, refusal::AREA_SIZE]].concat();
     let later = [&open[..], &[refusal::AREA, refusal::STATE]].concat();
     let step = [&later[..], &[refusal::NUMBER]].concat();
     let why = [&step[..], &[refusal::NOT_CARRIED, refusal::REASON]].concat();
@@ -44,11 +45,12 @@ fn refusals() -> [(&'static str, BTreeSet<u32>); 10] {
 }
 
 /// What may come of a call that is done, or of one that does not allow a line.
-const OUTCOMES: [&str; 18] = [
+const OUTCOMES: [&str; 19] = [
     "gathered",
     "rejected",
     "faulted at a load",
     "faulted at a store",
+    "faulted at a guard",
     "committed",
     "carried for WAW",
     "carried for RAW",
@@ -70,6 +72,7 @@ pub struct Tally {
     refusals: BTreeMap<(&'static str, u32), u64>,
     places: BTreeMap<(&'static str, u32, Place), u64>,
     outcomes: BTreeMap<&'static str, u64>,
+    meetings: BTreeMap<&'static str, u64>,
 }
 
 impl Tally {
@@ -82,6 +85,11 @@ impl Tally {
         }
         if let Some(outcome) = outcome(refusal, answer, call, lent) {
             *self.outcomes.entry(outcome).or_default() += 1;
+        }
+        if let (Call::Gather(number), DONE) = (call, refusal) {
+            for meeting in met::meetings(number, lent) {
+                *self.meetings.entry(meeting).or_default() += 1;
+            }
         }
     }
 
@@ -102,6 +110,8 @@ impl Tally {
         }
         let unseen = OUTCOMES.iter().filter(|outcome| !self.outcomes.contains_key(*outcome));
         never.extend(unseen.map(|outcome| outcome.to_string()));
+        let unseen = MEETINGS.iter().filter(|meeting| !self.meetings.contains_key(*meeting));
+        never.extend(unseen.map(|meeting| format!("a program that {meeting}")));
         never
     }
 
@@ -170,6 +180,7 @@ fn outcome_of_step(state: u32, detail: u32) -> &'static str {
         (REJECTED, ..) => "rejected",
         (FAULTED, _, FAULT_AT_LOAD) => "faulted at a load",
         (FAULTED, _, FAULT_AT_STORE) => "faulted at a store",
+        (FAULTED, _, FAULT_AT_GUARD) => "faulted at a guard",
         (COMMITTED, ..) => "committed",
         (CARRIED, WAW, _) => "carried for WAW",
         (CARRIED, RAW, _) => "carried for RAW",
@@ -205,6 +216,10 @@ impl fmt::Display for Tally {
         self.print_places(text)?;
         for outcome in OUTCOMES {
             writeln!(text, "{:>9} {outcome}", self.outcomes.get(outcome).copied().unwrap_or(0))?;
+        }
+        writeln!(text, "\nprograms that, when they were gathered,")?;
+        for meeting in MEETINGS {
+            writeln!(text, "{:>9} {meeting}", self.meetings.get(meeting).copied().unwrap_or(0))?;
         }
         Ok(())
     }

@@ -1,6 +1,7 @@
 //! A tiny assembler: a program is written as its instructions, an image or a sheet as its programs.
-//! Document 01, "Instructions" and "The image: counts and offsets"; document 02, request 1.
+//! Document 01, "Instructions" and "The image: counts and offsets"; document 02, requests 1 and 5.
 
+use plain::guards::Guard;
 use plain::image::{first_offset, INSTRUCTION_BYTES};
 use plain::machine::{ADD, END, LOAD, REJECT, SET, SKIPEQUAL, SKIPLESS, STORE, SUB};
 use plain::sheet;
@@ -84,12 +85,22 @@ pub fn sheet(rule: u8, programs: &[Vec<Instruction>]) -> Vec<u8> {
     sheet
 }
 
-/// What the batch program reads: T, the cells, the image.
+/// What `batch` and `why` read: T, the cells, the image.
 pub fn input(table: &[u32], image: &[u8]) -> Vec<u8> {
+    guarded_input(table, &[], image)
+}
+
+/// What `guarded` and `guarded_why` read: T, the cells, the pairs of the guard list, the image.
+pub fn guarded_input(table: &[u32], guards: &[u32], image: &[u8]) -> Vec<u8> {
     let mut input = two_bytes(table.len()).to_vec();
-    input.extend(table.iter().flat_map(|cell| cell.to_le_bytes()));
+    input.extend(table.iter().chain(guards).flat_map(|word| word.to_le_bytes()));
     input.extend(image);
     input
+}
+
+/// The guard list of these pairs, low then high, cell by cell.
+pub fn guards(pairs: &[(i32, i32)]) -> Vec<u32> {
+    pairs.iter().flat_map(|&(low, high)| Guard { low, high }.pair()).collect()
 }
 
 /// "All numbers are 16 bits, low byte first."

@@ -1,6 +1,7 @@
 //! A worked case: a batch to run, with what is to come of it.
 
 use crate::assembler::{image, sheet, Instruction};
+use plain::guards::full_range;
 use plain::Refusal;
 
 pub type Program = Vec<Instruction>;
@@ -9,6 +10,7 @@ pub type Program = Vec<Instruction>;
 pub struct Case {
     pub name: &'static str,
     pub table: Vec<u32>,
+    pub guards: Vec<u32>,
     pub image: Vec<u8>,
     /// The image as text, also where an instruction is bad.
     pub sheet: Vec<u8>,
@@ -22,7 +24,7 @@ pub struct Outcome {
     pub table: Vec<u32>,
 }
 
-/// A case of these programs under a rule byte.
+/// A case of these programs under a rule byte, lent the full range.
 pub fn case(
     name: &'static str,
     table: &[u32],
@@ -30,7 +32,14 @@ pub fn case(
     programs: &[Program],
     expected: Result<Outcome, Refusal>,
 ) -> Case {
-    Case { name, table: table.to_vec(), image: image(rule, programs), sheet: sheet(rule, programs), expected }
+    Case {
+        name,
+        table: table.to_vec(),
+        guards: full_range(table.len()),
+        image: image(rule, programs),
+        sheet: sheet(rule, programs),
+        expected,
+    }
 }
 
 pub fn outcome(slots: &[(u32, u32)], order: &[u32], table: &[u32]) -> Result<Outcome, Refusal> {

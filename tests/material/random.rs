@@ -1,7 +1,8 @@
-//! Random numbers, and random good programs that meet each other in the table.
-//! A seed gives the same ones on every machine.
+//! Random numbers, random good programs that meet each other in the table, and random guards that they
+//! meet there. A seed gives the same ones on every machine.
 
 use crate::assembler::{add, end, load, reject, set, skipequal, skipless, store, sub, Instruction};
+use plain::guards::Guard;
 
 /// SplitMix64: small, and good enough to pick test cases.
 pub struct Random(u64);
@@ -74,6 +75,37 @@ const VALUES: [u8; 4] = [4, 5, 6, 7];
 pub fn table(random: &mut Random, cells: usize) -> Vec<u32> {
     let mut cell = || if random.percent(50) { random.below(cells) as u32 } else { random.word() };
     (0..cells).map(|_| cell()).collect()
+}
+
+/// A guard list for this table. Most guards allow every value, or most of them.
+pub fn guards(random: &mut Random, table: &[u32]) -> Vec<u32> {
+    table.iter().flat_map(|_| guard(random, table).pair()).collect()
+}
+
+/// A guard: the full range, a wide one, one whose ends lie at a value that programs often store or next to
+/// it, one of a single value, or a closed one.
+fn guard(random: &mut Random, table: &[u32]) -> Guard {
+    let (low, high) = (guard_end(random, table), guard_end(random, table));
+    match random.below(20) {
+        0..=9 => Guard::FULL_RANGE,
+        10..=12 => Guard { low: i32::MIN / 2, high: i32::MAX / 2 },
+        13..=14 => Guard { low, high: i32::MAX },
+        15 => Guard { low: i32::MIN, high },
+        16 => Guard { low, high: low },
+        17 => Guard { low, high: low.wrapping_sub(1) },
+        _ => Guard { low: low.min(high), high: low.max(high) },
+    }
+}
+
+/// A value that programs often store, or one next to it: 0, which every register holds first, what the
+/// table holds, or the smallest or the largest number.
+fn guard_end(random: &mut Random, table: &[u32]) -> i32 {
+    let value = match random.below(8) {
+        0..=3 => 0,
+        4..=6 => random.pick(table),
+        _ => random.pick(&Guard::FULL_RANGE.pair()),
+    };
+    (value as i32).wrapping_add(random.pick(&[-1, 0, 0, 1]))
 }
 
 /// Good programs of a shape.

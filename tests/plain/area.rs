@@ -1,6 +1,7 @@
-//! The work area: where each word lies, what a slot says, and checks 5 to 7.
+//! The work area: where each word lies, what a slot says, and checks 5, 14, 6 and 7.
 //! Document 01, "The work area". No other file knows where a word lies.
 
+use crate::guards;
 use crate::image::{Image, INSTRUCTIONS};
 use crate::refusal::{self, Refusal};
 
@@ -37,12 +38,18 @@ pub fn words(cells: usize, programs: usize) -> usize {
     2 * cells + SLOT_WORDS * programs
 }
 
-/// The image's checks, then 5 and 6, which opening makes and every later call makes first.
-pub fn check_sizes<'a>(image: &'a [u8], table: &[u32], area: &[u32]) -> Result<Image<'a>, Refusal> {
+/// The image's checks, then 5, 14 and 6, which opening makes and every later call makes first.
+pub fn check_sizes<'a>(
+    image: &'a [u8],
+    table: &[u32],
+    guards: &[u32],
+    area: &[u32],
+) -> Result<Image<'a>, Refusal> {
     let image = Image::check(image)?;
     if table.is_empty() || table.len() > CELLS {
         return Err(refusal::TABLE_SIZE);
     }
+    guards::check(guards, table.len())?;
     if area.len() != words(table.len(), image.count()) {
         return Err(refusal::AREA_SIZE);
     }
@@ -50,8 +57,8 @@ pub fn check_sizes<'a>(image: &'a [u8], table: &[u32], area: &[u32]) -> Result<I
 }
 
 /// The same, then check 7.
-pub fn check<'a>(image: &'a [u8], table: &[u32], area: &[u32]) -> Result<Image<'a>, Refusal> {
-    let image = check_sizes(image, table, area)?;
+pub fn check<'a>(image: &'a [u8], table: &[u32], guards: &[u32], area: &[u32]) -> Result<Image<'a>, Refusal> {
+    let image = check_sizes(image, table, guards, area)?;
     let (marks, slots) = area.split_at(2 * table.len());
     let marks_are_good = marks.iter().all(|&mark| mark as usize <= image.count());
     if !marks_are_good || !slots.chunks_exact(SLOT_WORDS).all(|slot| slot_is_good(slot, table.len())) {
@@ -140,6 +147,11 @@ pub fn earlier_program(mark: u32, number: usize) -> Option<u32> {
 pub struct Slot<'a>(&'a mut [u32]);
 
 impl Slot<'_> {
+    /// These words as a slot.
+    pub fn of(words: &mut [u32; SLOT_WORDS]) -> Slot<'_> {
+        Slot(words)
+    }
+
     pub fn state(&self) -> u32 {
         self.0[STATE]
     }

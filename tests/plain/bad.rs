@@ -3,7 +3,7 @@
 //! image order, then in the list below."
 
 use crate::image::{Image, INSTRUCTION_BYTES};
-use crate::input::table_and_image;
+use crate::input::Input;
 use crate::machine::{self, Flaw};
 use crate::refusal::{self, Refusal};
 use crate::sheet::Sheet;
@@ -59,7 +59,12 @@ impl fmt::Display for BadInstruction {
 /// What `batch` and `why` say on standard error of what they read: a line where an instruction of the
 /// image behind the table is bad, otherwise nothing.
 pub fn said_of_input(input: &[u8]) -> String {
-    table_and_image(input).map_or(String::new(), |(_, image)| said_of_image(image))
+    Input::unguarded(input).map_or(String::new(), |input| said_of_image(input.image))
+}
+
+/// The same of `guarded` and `guarded_why`.
+pub fn said_of_guarded_input(input: &[u8]) -> String {
+    Input::guarded(input).map_or(String::new(), |input| said_of_image(input.image))
 }
 
 /// What `to_sheet` says of an image.

@@ -1,17 +1,28 @@
-//! The program `why`: bytes in, what came of every program and why, in words, out.
-//! It reads and runs what the program `batch` does; the causes are those of document 02's request 3.
+//! The programs `why` and `guarded_why`: bytes in, what came of every program and why, in words, out.
+//! They read and run what `batch` and `guarded` do; the causes are those of document 02's request 3.
 
 use crate::area::{CARRIED, COMMITTED, FAULTED, REJECTED, STATE_WORDS};
 use crate::dependencies::{Dependencies, Pair};
-use crate::input::{self, done, Batch};
-use crate::machine::FAULT_AT_LOAD;
+use crate::guards::Guard;
+use crate::input::{self, done, Batch, Input};
+use crate::machine::Fault;
 use crate::refusal::Refusal;
 use crate::steps::{RAW, WAW};
 use crate::{why, Cause};
 
-/// All that the program prints for what it reads. A batch of no programs prints nothing.
+/// All that `why` prints for what it reads. A batch of no programs prints nothing.
 pub fn printed(input: &[u8]) -> String {
-    input::printed(input, |batch| (0..batch.steps.len()).map(|number| page(batch, number)).collect())
+    input::printed(Input::unguarded(input), pages)
+}
+
+/// All that `guarded_why` prints for what it reads.
+pub fn printed_guarded(input: &[u8]) -> String {
+    input::printed(Input::guarded(input), pages)
+}
+
+/// What is printed of all programs, by number.
+fn pages(batch: &Batch) -> Result<String, Refusal> {
+    (0..batch.steps.len()).map(|number| page(batch, number)).collect()
 }
 
 /// What is said of a program.
@@ -29,7 +40,7 @@ fn page(batch: &Batch, number: usize) -> Result<String, Refusal> {
         COMMITTED => committed(batch, number),
         CARRIED => carried(batch, number)?,
         REJECTED => rejected(step.detail),
-        FAULTED => faulted(step.detail, batch.table.len()),
+        FAULTED => faulted(batch, number),
         _ => unreachable!("every program of a batch that was run has ended"),
     };
     let lines: String = words.iter().map(|line| format!("  {line}\n")).collect();
@@ -59,7 +70,7 @@ fn committed(batch: &Batch, number: usize) -> Said {
 
 /// A carried program: the reason with its cause, and how it goes on.
 fn carried(batch: &Batch, number: usize) -> Result<Said, Refusal> {
-    let cause = why(batch.image, &batch.table, &batch.area, number);
+    let cause = why(batch.image, &batch.table, &batch.guards, &batch.area, number);
     done(cause.refusal)?;
     let Said { facts, mut words } = match cause.reason {
         WAW => carried_for_waw(cause),
@@ -128,18 +139,31 @@ fn rejected(code: u32) -> Said {
     }
 }
 
-/// "Detail: 256 × kind + instruction number."
-fn faulted(detail: u32, cells: usize) -> Said {
-    let (kind, instruction, last) = (detail / 256, detail % 256, cells - 1);
-    let (word, does) = if kind == FAULT_AT_LOAD { ("load", "loads") } else { ("store", "stores to") };
+fn faulted(batch: &Batch, number: usize) -> Said {
+    let (fault, instruction) = batch.fault(number);
+    let (word, does) = match fault {
+        Fault::AtLoad => ("load", format!("loads {}", outside(batch))),
+        Fault::AtStore => ("store", format!("stores to {}", outside(batch))),
+        Fault::AtGuard { cell, value } => ("guard", breaks(batch, cell, value)),
+    };
     Said {
         facts: format!(" {word} at {instruction}"),
         words: vec![
-            format!(
-                "Its instruction {instruction}, counted from 0, {does} a cell outside the table, \
-                 whose last cell is {last}."
-            ),
+            format!("Its instruction {instruction}, counted from 0, {does}."),
             String::from("It stores nothing, reserves nothing and is not carried."),
         ],
     }
+}
+
+/// A cell of T or more.
+fn outside(batch: &Batch) -> String {
+    format!("a cell outside the table, whose last cell is {}", batch.table.len() - 1)
+}
+
+/// A value that a cell's guard does not allow. All three numbers are read as the guard reads them, with
+/// their sign.
+fn breaks(batch: &Batch, cell: u32, value: u32) -> String {
+    let Guard { low, high } = Guard::of(&batch.guards, cell);
+    let value = value as i32;
+    format!("stores {value} to cell {cell}, whose guard asks for at least {low} and at most {high}")
 }

@@ -21,12 +21,14 @@
 //! | `bad.rs` | 2, which instruction is bad |
 //! | `why.rs` | 3, tell me why I was carried |
 //! | `explain.rs` | 3, the program that tells it in words |
+//! | `guards.rs` | 5, guarded cells |
 
 pub mod area;
 pub mod bad;
 pub mod batch;
 mod dependencies;
 pub mod explain;
+pub mod guards;
 pub mod image;
 mod input;
 pub mod machine;

@@ -1,15 +1,17 @@
 //! The machine: which instructions are good, and what a program does when it runs.
-//! Document 01, "Instructions".
+//! Document 01, "Instructions"; the fault at a guard is of document 02's request 5.
 
-use crate::area::Slot;
+use crate::area::{Slot, SLOT_WORDS};
+use crate::guards::Guard;
 use crate::image::INSTRUCTION_BYTES;
 
 /// "8 registers." "Every byte that names a register is 0 to 7."
 pub const REGISTERS: usize = 8;
 
-/// Fault kinds: "kind 1 at a load, 2 at a store".
+/// Fault kinds: "kind 1 at a load, 2 at a store", "a fault of kind 3" at a guard.
 pub const FAULT_AT_LOAD: u32 = 1;
 pub const FAULT_AT_STORE: u32 = 2;
+pub const FAULT_AT_GUARD: u32 = 3;
 
 /// The operations, by their byte.
 pub const END: u8 = 0;
@@ -29,7 +31,28 @@ pub const NAMES: [&str; 9] = ["end", "set", "load", "store", "add", "sub", "skip
 pub enum End {
     Finished,
     Rejected { code: u32 },
-    Faulted { kind: u32, instruction: u32 },
+    Faulted { fault: Fault, instruction: u32 },
+}
+
+/// What a faulted run came upon.
+#[derive(Clone, Copy, Debug, PartialEq, Eq)]
+pub enum Fault {
+    /// A load of a cell outside the table.
+    AtLoad,
+    /// A store to a cell outside the table.
+    AtStore,
+    /// A store of a value that its cell's guard does not allow.
+    AtGuard { cell: u32, value: u32 },
+}
+
+impl Fault {
+    pub fn kind(self) -> u32 {
+        match self {
+            Fault::AtLoad => FAULT_AT_LOAD,
+            Fault::AtStore => FAULT_AT_STORE,
+            Fault::AtGuard { .. } => FAULT_AT_GUARD,
+        }
+    }
 }
 
 /// What is wrong with a bad instruction, and the byte that shows it.
@@ -85,8 +108,15 @@ fn bytes_of(instruction: &[u8]) -> [u8; INSTRUCTION_BYTES] {
     [instruction[0], instruction[1], instruction[2], instruction[3]]
 }
 
-/// Runs a good program on a table. Its reads and stores go into a slot that holds none yet.
-pub fn run(program: &[u8], table: &[u32], slot: &mut Slot) -> End {
+/// A run that no area keeps: how it ended, and a slot that has its reads and stores and nothing else.
+pub fn run_apart(program: &[u8], table: &[u32], guards: &[u32]) -> (End, [u32; SLOT_WORDS]) {
+    let mut slot = [0; SLOT_WORDS];
+    let end = run(program, table, guards, &mut Slot::of(&mut slot));
+    (end, slot)
+}
+
+/// Runs a good program on a guarded table. Its reads and stores go into a slot that holds none yet.
+pub fn run(program: &[u8], table: &[u32], guards: &[u32], slot: &mut Slot) -> End {
     let mut r = [0u32; REGISTERS];
     let mut place = 0;
     // "Arriving at m is an end."
@@ -98,14 +128,12 @@ pub fn run(program: &[u8], table: &[u32], slot: &mut Slot) -> End {
             SET => r[a] = (256 * b + c) as u32,
             LOAD => match load(r[b], table, slot) {
                 Some(value) => r[a] = value,
-                None => return fault(FAULT_AT_LOAD, place - 1),
+                None => return faulted(Fault::AtLoad, place - 1),
             },
-            STORE => {
-                if r[a] as usize >= table.len() {
-                    return fault(FAULT_AT_STORE, place - 1);
-                }
-                slot.store(r[a], r[b]);
-            }
+            STORE => match store_fault(r[a], r[b], table.len(), guards) {
+                Some(fault) => return faulted(fault, place - 1),
+                None => slot.store(r[a], r[b]),
+            },
             ADD => r[a] = r[b].wrapping_add(r[c]),
             SUB => r[a] = r[b].wrapping_sub(r[c]),
             SKIPLESS if r[a] < r[b] => place += c,
@@ -130,6 +158,17 @@ fn load(cell: u32, table: &[u32], slot: &mut Slot) -> Option<u32> {
     }))
 }
 
-fn fault(kind: u32, place: usize) -> End {
-    End::Faulted { kind, instruction: place as u32 }
+/// What is wrong with a store of a value to a cell, if anything is. "Kind 2 comes before kind 3."
+fn store_fault(cell: u32, value: u32, cells: usize, guards: &[u32]) -> Option<Fault> {
+    if cell as usize >= cells {
+        Some(Fault::AtStore)
+    } else if !Guard::of(guards, cell).allows(value) {
+        Some(Fault::AtGuard { cell, value })
+    } else {
+        None
+    }
+}
+
+fn faulted(fault: Fault, place: usize) -> End {
+    End::Faulted { fault, instruction: place as u32 }
 }

@@ -1,5 +1,5 @@
 //! The next image.
-//! Document 01, "The steps"; its checks go 1 to 3, 41 to 44, 5 to 7, 9, 21 to 23, 61 to 64,
+//! Document 01, "The steps"; its checks go 1 to 3, 41 to 44, 5, 14, 6, 7, 9, 21 to 23, 61 to 64,
 //! 11, 10.
 
 use crate::area::{self, CARRIED};
@@ -9,18 +9,26 @@ use crate::Count;
 
 /// "The carried programs in number order, then the fresh image's programs, with the fresh image's
 /// rule byte." The output beyond the image is untouched.
-pub fn next_image(image: &[u8], table: &[u32], area: &[u32], fresh: &[u8], out: &mut [u8]) -> Count {
-    Count::of(next_image_checked(image, table, area, fresh, out))
+pub fn next_image(
+    image: &[u8],
+    table: &[u32],
+    guards: &[u32],
+    area: &[u32],
+    fresh: &[u8],
+    out: &mut [u8],
+) -> Count {
+    Count::of(next_image_checked(image, table, guards, area, fresh, out))
 }
 
 fn next_image_checked(
     image: &[u8],
     table: &[u32],
+    guards: &[u32],
     area: &[u32],
     fresh: &[u8],
     out: &mut [u8],
 ) -> Result<usize, Refusal> {
-    let image = area::check(image, table, area)?;
+    let image = area::check(image, table, guards, area)?;
     area::check_settled(area, table.len())?;
     let fresh = Image::check(fresh).map_err(Refusal::of_fresh)?;
     let next = || {

@@ -9,12 +9,18 @@ use crate::Count;
 /// "Repeatedly take the smallest-numbered committed program not yet taken, none of whose stored
 /// cells is read by another committed program not yet taken." The list beyond the committed count
 /// is untouched.
-pub fn order(image: &[u8], table: &[u32], area: &[u32], list: &mut [u32]) -> Count {
-    Count::of(order_checked(image, table, area, list))
+pub fn order(image: &[u8], table: &[u32], guards: &[u32], area: &[u32], list: &mut [u32]) -> Count {
+    Count::of(order_checked(image, table, guards, area, list))
 }
 
-fn order_checked(image: &[u8], table: &[u32], area: &[u32], list: &mut [u32]) -> Result<usize, Refusal> {
-    let image = area::check(image, table, area)?;
+fn order_checked(
+    image: &[u8],
+    table: &[u32],
+    guards: &[u32],
+    area: &[u32],
+    list: &mut [u32],
+) -> Result<usize, Refusal> {
+    let image = area::check(image, table, guards, area)?;
     area::check_settled(area, table.len())?;
     if list.len() < image.count() {
         return Err(refusal::TOO_SHORT);

@@ -1,7 +1,7 @@
 //! The refusals.
 //! Document 01, "What each refusal says": each constant is a row of that table, but for 4, which
 //! document 02's request 2 replaces by 41 to 44, as it does 24 by 61 to 64. 13 and 15 are of its
-//! request 3; 51 is of request 1, which also says what 2, 3 and 10 mean for a sheet.
+//! request 3, 14 of request 5; 51 is of request 1, which also says what 2, 3 and 10 mean for a sheet.
 
 /// What a call refuses: a number, and "program and instruction too" where it is of an instruction, both
 /// from 0. For every other number, 0 among them, these two are 0.
@@ -46,6 +46,8 @@ pub const UNUSED: Refusal = Refusal::numbered(43);
 pub const SKIP: Refusal = Refusal::numbered(44);
 /// Table of 0 or over 256 cells.
 pub const TABLE_SIZE: Refusal = Refusal::numbered(5);
+/// Guard list not T pairs.
+pub const GUARDS: Refusal = Refusal::numbered(14);
 /// Area is not 2T + 100n words.
 pub const AREA_SIZE: Refusal = Refusal::numbered(6);
 /// A mark over n, a state over 5, a count over 32, or a cell of T or more among the counted ones.

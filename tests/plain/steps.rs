@@ -15,8 +15,8 @@ pub const RAW: u32 = 2;
 pub const RAW_WITH_WAR: u32 = 3;
 
 /// "Opening sets the whole area to 0."
-pub fn open(image: &[u8], table: &[u32], area: &mut [u32]) -> Refusal {
-    match area::check_sizes(image, table, area) {
+pub fn open(image: &[u8], table: &[u32], guards: &[u32], area: &mut [u32]) -> Refusal {
+    match area::check_sizes(image, table, guards, area) {
         Ok(_) => {
             area.fill(0);
             DONE
@@ -27,24 +27,25 @@ pub fn open(image: &[u8], table: &[u32], area: &mut [u32]) -> Refusal {
 
 /// "Gathering runs one waiting program on the table lent to it, rewrites that whole slot and makes
 /// all its reservations."
-pub fn gather(image: &[u8], table: &[u32], area: &mut [u32], number: usize) -> Step {
-    Step::of(gather_checked(image, table, area, number))
+pub fn gather(image: &[u8], table: &[u32], guards: &[u32], area: &mut [u32], number: usize) -> Step {
+    Step::of(gather_checked(image, table, guards, area, number))
 }
 
 fn gather_checked(
     image: &[u8],
     table: &[u32],
+    guards: &[u32],
     area: &mut [u32],
     number: usize,
 ) -> Result<(u32, u32), Refusal> {
-    let image = area::check(image, table, area)?;
+    let image = area::check(image, table, guards, area)?;
     image.check_number(number)?;
     let Place { write_marks, read_marks, mut slot } = Place::of(area, table.len(), number);
     if slot.state() != WAITING {
         return Err(refusal::STATE);
     }
     slot.clear();
-    Ok(match machine::run(image.program(number), table, &mut slot) {
+    Ok(match machine::run(image.program(number), table, guards, &mut slot) {
         End::Finished => {
             reserve(write_marks, slot.stores(), number);
             reserve(read_marks, slot.reads(), number);
@@ -55,9 +56,9 @@ fn gather_checked(
             slot.clear();
             slot.decide(REJECTED, code)
         }
-        End::Faulted { kind, instruction } => {
+        End::Faulted { fault, instruction } => {
             slot.clear();
-            slot.decide(FAULTED, 256 * kind + instruction)
+            slot.decide(FAULTED, 256 * fault.kind() + instruction)
         }
     })
 }
@@ -75,17 +76,18 @@ fn reserve(marks: &mut [u32], cells: &[u32], number: usize) {
 
 /// "Settling decides one gathered program and changes only its state and detail and, on a commit,
 /// the table."
-pub fn settle(image: &[u8], table: &mut [u32], area: &mut [u32], number: usize) -> Step {
-    Step::of(settle_checked(image, table, area, number))
+pub fn settle(image: &[u8], table: &mut [u32], guards: &[u32], area: &mut [u32], number: usize) -> Step {
+    Step::of(settle_checked(image, table, guards, area, number))
 }
 
 fn settle_checked(
     image: &[u8],
     table: &mut [u32],
+    guards: &[u32],
     area: &mut [u32],
     number: usize,
 ) -> Result<(u32, u32), Refusal> {
-    let image = area::check(image, table, area)?;
+    let image = area::check(image, table, guards, area)?;
     image.check_number(number)?;
     let cells = table.len();
     let some_state_is_waiting = area::states(area, cells).any(|state| state == WAITING);

@@ -1,5 +1,5 @@
 //! Why a program was carried: the reason, with its cause.
-//! Document 02, request 3; its checks go 1 to 3, 41 to 44, 5 to 9, 13, 15.
+//! Document 02, request 3; its checks go 1 to 3, 41 to 44, 5, 14, 6 to 9, 13, 15.
 
 use crate::area::{self, CARRIED, DETAIL, STATE};
 use crate::dependencies::{Dependencies, Pair};
@@ -22,15 +22,21 @@ pub struct Cause {
 /// "For a settled batch and a program number, say the reason with its cause: the lowest cell that
 /// shows the dependency and the smallest earlier program its marks name; for reason 3 one such pair
 /// for RAW and one for WAR."
-pub fn why(image: &[u8], table: &[u32], area: &[u32], number: usize) -> Cause {
-    match why_checked(image, table, area, number) {
+pub fn why(image: &[u8], table: &[u32], guards: &[u32], area: &[u32], number: usize) -> Cause {
+    match why_checked(image, table, guards, area, number) {
         Ok(cause) => cause,
         Err(refusal) => Cause { refusal, ..Cause::default() },
     }
 }
 
-fn why_checked(image: &[u8], table: &[u32], area: &[u32], number: usize) -> Result<Cause, Refusal> {
-    let image = area::check(image, table, area)?;
+fn why_checked(
+    image: &[u8],
+    table: &[u32],
+    guards: &[u32],
+    area: &[u32],
+    number: usize,
+) -> Result<Cause, Refusal> {
+    let image = area::check(image, table, guards, area)?;
     image.check_number(number)?;
     area::check_settled(area, table.len())?;
     let slot = area::slot(area, table.len(), number);

@@ -1,9 +1,10 @@
 //! Cases 1 to 14 of the bench sheet, run through the calls and through the batch program; and the
-//! lessons' batches, run through the calls.
+//! lessons' batches and the guarded heater, run through the calls.
 
 use material::assembler::input;
 use material::bench_sheet::cases;
 use material::case::{Case, Outcome};
+use material::heater::heater;
 use material::lessons::lessons;
 use plain::area::{self, GATHERED};
 use plain::batch::printed;
@@ -16,23 +17,23 @@ fn run(case: &Case) -> Result<(Outcome, Vec<u32>), Refusal> {
     let programs = usize::from(case.image[0]);
     let mut table = case.table.clone();
     let mut area = vec![7; area::words(table.len(), programs)];
-    let refusal = open(&case.image, &table, &mut area);
+    let refusal = open(&case.image, &table, &case.guards, &mut area);
     if refusal != DONE {
         return Err(refusal);
     }
     let mut slots = Vec::new();
     for number in 0..programs {
-        let step = gather(&case.image, &table, &mut area, number);
+        let step = gather(&case.image, &table, &case.guards, &mut area, number);
         slots.push((step.state, step.detail));
     }
     for number in 0..programs {
         if slots[number].0 == GATHERED {
-            let step = settle(&case.image, &mut table, &mut area, number);
+            let step = settle(&case.image, &mut table, &case.guards, &mut area, number);
             slots[number] = (step.state, step.detail);
         }
     }
     let mut list = [0; PROGRAMS];
-    let listed = order(&case.image, &table, &area, &mut list);
+    let listed = order(&case.image, &table, &case.guards, &area, &mut list);
     assert_eq!(listed.refusal, DONE);
     let order = list[..listed.count as usize].to_vec();
     Ok((Outcome { slots, order, table }, area))
@@ -62,6 +63,11 @@ fn every_case_comes_out_as_the_sheet_says() {
 #[test]
 fn every_lesson_comes_out_as_it_says() {
     lessons().iter().for_each(assert_comes_out_as_expected);
+}
+
+#[test]
+fn the_heater_comes_out_as_it_says() {
+    assert_comes_out_as_expected(&heater());
 }
 
 #[test]

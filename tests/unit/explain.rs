@@ -1,7 +1,8 @@
-//! What the program `why` prints, for each way in which a program can end.
+//! What the programs `why` and `guarded_why` print, for each way in which a program can end.
 
-use material::assembler::{image, input, load, set, store, R0, R1};
+use material::assembler::{guarded_input, guards, image, input, load, set, store, R0, R1};
 use material::bench_sheet::cases;
+use material::heater::heater;
 use plain::{batch, explain};
 
 /// What the program prints for a case of the bench sheet.
@@ -95,6 +96,44 @@ fn faulted_at_a_load() {
 ";
     let programs = [vec![set(R0, 0), set(R1, 65535), load(R0, R1), store(R1, R0)]];
     assert_eq!(explain::printed(&input(&[9], &image(2, &programs))), page);
+}
+
+/// The numbers are read as the guard reads them, with their sign; the page is that of `guarded_why`.
+#[test]
+fn faulted_at_a_guard() {
+    let heater = heater();
+    let pages = "\
+0 faulted guard at 4
+  Its instruction 4, counted from 0, stores -25 to cell 0, whose guard asks for at least -20 and at most 45.
+  It stores nothing, reserves nothing and is not carried.
+1 committed
+  No earlier program stores a cell that it reads or stores, so its stores are in the table.
+2 faulted guard at 2
+  Its instruction 2, counted from 0, stores 0 to cell 2, whose guard asks for at least 1 and at most 0.
+  It stores nothing, reserves nothing and is not carried.
+3 committed
+  No earlier program stores a cell that it reads or stores, so its stores are in the table.
+";
+    assert_eq!(explain::printed_guarded(&guarded_input(&heater.table, &heater.guards, &heater.image)), pages);
+}
+
+/// The value is that of the run on the opening table, although program 0 has since stored another there.
+#[test]
+fn the_value_at_a_guard_is_that_of_the_opening_table() {
+    let programs = [vec![set(R1, 5), store(R0, R1)], vec![load(R1, R0), set(R0, 1), store(R0, R1)]];
+    let list = guards(&[(i32::MIN, i32::MAX), (i32::MIN, -2)]);
+    let input = guarded_input(&[u32::MAX, 0], &list, &image(2, &programs));
+    let said = "stores -1 to cell 1, whose guard asks for at least -2147483648 and at most -2.\n";
+    assert!(explain::printed_guarded(&input).contains(said));
+}
+
+#[test]
+fn a_guarded_page_under_the_full_range_is_that_of_why() {
+    for case in cases() {
+        let guarded = guarded_input(&case.table, &case.guards, &case.image);
+        let unguarded = input(&case.table, &case.image);
+        assert_eq!(explain::printed_guarded(&guarded), explain::printed(&unguarded), "case {}", case.name);
+    }
 }
 
 #[test]

@@ -4,6 +4,7 @@ use material::assembler::{end, image, load, set, store, R0, R1};
 use material::bad::{self, following, good_programs, places, replaced, WAYS};
 use plain::area::{words, DETAIL, READS, READ_COUNT, SLOT_WORDS, STATE, STORES, STORE_COUNT};
 use plain::area::{CARRIED, COMMITTED, FAULTED, GATHERED, REJECTED, WAITING};
+use plain::guards::full_range;
 use plain::refusal::{self, DONE};
 use plain::steps::{RAW, RAW_WITH_WAR, WAW};
 use plain::{gather, next_image, open, order, program, program_refusal, settle, why};
@@ -15,6 +16,7 @@ const CELLS: usize = 3;
 struct Lent {
     image: Vec<u8>,
     table: Vec<u32>,
+    guards: Vec<u32>,
     area: Vec<u32>,
     list: Vec<u32>,
     fresh: Vec<u8>,
@@ -27,6 +29,7 @@ impl Lent {
         Lent {
             image: two_programs(),
             table: vec![5; CELLS],
+            guards: full_range(CELLS),
             area: vec![0; words(CELLS, 2)],
             list: vec![9; 2],
             fresh: image(2, &[vec![end()]]),
@@ -58,29 +61,42 @@ impl Lent {
     }
 
     fn open(&mut self) -> Refusal {
-        self.unless_refused(|lent| open(&lent.image, &lent.table, &mut lent.area))
+        self.unless_refused(|lent| open(&lent.image, &lent.table, &lent.guards, &mut lent.area))
     }
 
     fn gather(&mut self, number: usize) -> Refusal {
-        self.unless_refused(|lent| of_step(gather(&lent.image, &lent.table, &mut lent.area, number)))
+        self.unless_refused(|lent| {
+            of_step(gather(&lent.image, &lent.table, &lent.guards, &mut lent.area, number))
+        })
     }
 
     fn settle(&mut self, number: usize) -> Refusal {
-        self.unless_refused(|lent| of_step(settle(&lent.image, &mut lent.table, &mut lent.area, number)))
+        self.unless_refused(|lent| {
+            of_step(settle(&lent.image, &mut lent.table, &lent.guards, &mut lent.area, number))
+        })
     }
 
     fn order(&mut self) -> Refusal {
-        self.unless_refused(|lent| of_count(order(&lent.image, &lent.table, &lent.area, &mut lent.list)))
+        self.unless_refused(|lent| {
+            of_count(order(&lent.image, &lent.table, &lent.guards, &lent.area, &mut lent.list))
+        })
     }
 
     fn next_image(&mut self) -> Refusal {
         self.unless_refused(|lent| {
-            of_count(next_image(&lent.image, &lent.table, &lent.area, &lent.fresh, &mut lent.out))
+            of_count(next_image(
+                &lent.image,
+                &lent.table,
+                &lent.guards,
+                &lent.area,
+                &lent.fresh,
+                &mut lent.out,
+            ))
         })
     }
 
     fn why(&mut self, number: usize) -> Refusal {
-        self.unless_refused(|lent| of_cause(why(&lent.image, &lent.table, &lent.area, number)))
+        self.unless_refused(|lent| of_cause(why(&lent.image, &lent.table, &lent.guards, &lent.area, number)))
     }
 
     /// "A refusal changes no lent memory."
@@ -92,7 +108,7 @@ impl Lent {
         refusal
     }
 
-    /// All six calls that are lent image, table and area refuse so.
+    /// All six calls that are lent image, table, guards and area refuse so.
     fn assert_all_refuse(mut self, refusal: Refusal) {
         assert_eq!(self.open(), refusal);
         self.assert_all_but_opening_refuse(refusal);
@@ -162,12 +178,13 @@ fn names_are_the_documents_numbers() {
         refusal::TOO_MANY,
         refusal::NO_ORDER,
         refusal::NOT_CARRIED,
+        refusal::GUARDS,
+        refusal::REASON,
     ];
     assert_eq!(DONE.number, 0);
     assert_eq!(numbers(&image), [1, 2, 3]);
     assert_eq!(numbers(&instruction), [41, 42, 43, 44]);
-    assert_eq!(numbers(&others), [5, 6, 7, 8, 9, 10, 11, 12, 13]);
-    assert_eq!(numbers(&[refusal::REASON]), [15]);
+    assert_eq!(numbers(&others), [5, 6, 7, 8, 9, 10, 11, 12, 13, 14, 15]);
     assert_eq!(numbers(&image.map(Refusal::of_fresh)), [21, 22, 23]);
     assert_eq!(numbers(&instruction.map(Refusal::of_fresh)), [61, 62, 63, 64]);
     assert_eq!([WAITING, GATHERED, REJECTED, FAULTED, COMMITTED, CARRIED], [0, 1, 2, 3, 4, 5]);
@@ -245,8 +262,33 @@ fn rows_41_to_44_and_61_to_64_at_every_place() {
 #[test]
 fn row_5_table_size() {
     for cells in [0, 257] {
-        let lent = Lent { table: vec![0; cells], area: vec![0; words(cells, 2)], ..Lent::opened() };
+        let (table, guards) = (vec![0; cells], full_range(cells));
+        let lent = Lent { table, guards, area: vec![0; words(cells, 2)], ..Lent::opened() };
         lent.assert_all_refuse(refusal::TABLE_SIZE);
+    }
+}
+
+/// "14 guard list not T pairs": one word too few or too many, one pair too few or too many, no pair, and one
+/// word a cell.
+#[test]
+fn row_14_guards() {
+    let pairs = 2 * CELLS;
+    for words in [pairs - 1, pairs + 1, pairs - 2, pairs + 2, 0, CELLS] {
+        Lent { guards: vec![0; words], ..Lent::opened() }.assert_all_refuse(refusal::GUARDS);
+    }
+}
+
+/// "After 5", and so before 6: what the guards say is not looked at.
+#[test]
+fn row_14_stands_between_5_and_6() {
+    let bad = || Lent { guards: vec![], area: vec![9; 1], ..Lent::opened() };
+    bad().assert_all_refuse(refusal::GUARDS);
+    Lent { table: vec![], ..bad() }.assert_all_refuse(refusal::TABLE_SIZE);
+    Lent { guards: full_range(CELLS), ..bad() }.assert_all_refuse(refusal::AREA_SIZE);
+    for words in [[0, 0], [1, 0], [u32::MAX, 0]] {
+        let mut lent = Lent { guards: words.repeat(CELLS), ..Lent::settled() };
+        assert_eq!((lent.order(), lent.next_image(), lent.why(1)), (DONE, DONE, DONE));
+        assert_eq!(lent.open(), DONE);
     }
 }
 
@@ -428,7 +470,8 @@ fn the_first_row_that_holds_decides() {
     assert_image_refused(&changed(|image| (image[2], image[4]) = (3, 0)), refusal::HEADER);
     assert_image_refused(&changed(|image| (image[4], image[10]) = (0, 9)), refusal::OFFSETS);
     let bad = changed(|image| image[14] = 9);
-    let mut lent = Lent { image: bad.clone(), area: vec![9; 1], table: vec![], ..Lent::opened() };
+    let mut lent =
+        Lent { image: bad.clone(), area: vec![9; 1], guards: vec![], table: vec![], ..Lent::opened() };
     assert_eq!(lent.gather(9), refusal::OPERATION.at(0, 1));
     assert_eq!(program_refusal(&bad, 9), refusal::OPERATION.at(0, 1));
     let mut lent = Lent { area: vec![9; 1], table: vec![], ..Lent::opened() };

@@ -6,6 +6,7 @@ use material::bench_sheet;
 use material::random::{self, Random, Shape};
 use plain::area::{self, mark_of, words, CARRIED, COMMITTED, DETAIL, GATHERED, STATE};
 use plain::area::{READS, READ_COUNT, STORES, STORE_COUNT};
+use plain::guards::full_range;
 use plain::refusal::{self, DONE};
 use plain::steps::{RAW, RAW_WITH_WAR, WAW};
 use plain::{gather, open, settle, why, Cause};
@@ -55,7 +56,7 @@ impl MadeUp {
     }
 
     fn why(&self) -> Cause {
-        why(&self.image(), &[0; CELLS], &self.area, NUMBER)
+        why(&self.image(), &[0; CELLS], &full_range(CELLS), &self.area, NUMBER)
     }
 }
 
@@ -188,21 +189,23 @@ fn a_cell_that_stands_twice_in_a_slot_is_one_cell() {
 fn nothing_lent_is_changed() {
     let batch = MadeUp::carried(2, RAW_WITH_WAR, &[5], &[2]).stored_by(5, 1).read_by(2, 3);
     let (image, table, area) = (batch.image(), vec![7; CELLS], batch.area.clone());
-    assert_eq!(why(&image, &table, &area, NUMBER).refusal, DONE);
+    let guards = full_range(CELLS);
+    assert_eq!(why(&image, &table, &guards, &area, NUMBER).refusal, DONE);
     assert!(image == batch.image() && table == [7; CELLS] && area == batch.area);
+    assert!(guards == full_range(CELLS));
 }
 
 /// A batch that the calls have run to its end, in number order.
-fn settled_area(image: &[u8], table: &[u32]) -> Vec<u32> {
+fn settled_area(image: &[u8], table: &[u32], guards: &[u32]) -> Vec<u32> {
     let programs = usize::from(image[0]);
     let (mut table, mut area) = (table.to_vec(), vec![0; words(table.len(), programs)]);
-    assert_eq!(open(image, &table, &mut area), DONE);
+    assert_eq!(open(image, &table, guards, &mut area), DONE);
     for number in 0..programs {
-        assert_eq!(gather(image, &table, &mut area, number).refusal, DONE);
+        assert_eq!(gather(image, &table, guards, &mut area, number).refusal, DONE);
     }
     for number in 0..programs {
         if area::slot(&area, table.len(), number)[STATE] == GATHERED {
-            assert_eq!(settle(image, &mut table, &mut area, number).refusal, DONE);
+            assert_eq!(settle(image, &mut table, guards, &mut area, number).refusal, DONE);
         }
     }
     area
@@ -230,9 +233,9 @@ fn every_carried_program_of_the_bench_sheet() {
     ];
     let mut told = Vec::new();
     for case in bench_sheet::cases().into_iter().filter(|case| case.expected.is_ok()) {
-        let area = settled_area(&case.image, &case.table);
+        let area = settled_area(&case.image, &case.table, &case.guards);
         for number in carried_programs(&area, case.table.len()) {
-            told.push((case.name, number, why(&case.image, &case.table, &area, number)));
+            told.push((case.name, number, why(&case.image, &case.table, &case.guards, &area, number)));
         }
     }
     assert_eq!(told, expected);
@@ -244,9 +247,9 @@ struct Run {
     stores: Vec<u32>,
 }
 
-fn own_run(program: &[Instruction], table: &[u32]) -> Run {
+fn own_run(program: &[Instruction], table: &[u32], guards: &[u32]) -> Run {
     let mut area = vec![0; words(table.len(), 1)];
-    assert_eq!(gather(&image(1, &[program.to_vec()]), table, &mut area, 0).refusal, DONE);
+    assert_eq!(gather(&image(1, &[program.to_vec()]), table, guards, &mut area, 0).refusal, DONE);
     let slot = area::slot(&area, table.len(), 0);
     Run { reads: area::reads(slot).to_vec(), stores: area::stores(slot).to_vec() }
 }
@@ -274,7 +277,7 @@ fn cause_by_runs(run: &Run, earlier: &[Run], rule: u8) -> Cause {
 }
 
 /// "For a batch made by these calls", it is what the programs' own runs from the opening table show,
-/// without any mark.
+/// without any mark. On every second table the runs meet guards.
 #[test]
 fn the_cause_is_what_the_programs_own_runs_show() {
     let mut told = [0; RAW_WITH_WAR as usize + 1];
@@ -283,11 +286,12 @@ fn the_cause_is_what_the_programs_own_runs_show() {
         let (rule, busy_cells) = (random.below(3) as u8, random.between(2, 12));
         let shape = Shape { cells: 12, busy_cells, programs: 10, instructions: 16 };
         let (table, programs) = (random::table(random, shape.cells), random::programs(random, shape));
-        let runs: Vec<Run> = programs.iter().map(|program| own_run(program, &table)).collect();
+        let guards = if seed % 2 == 0 { full_range(shape.cells) } else { random::guards(random, &table) };
+        let runs: Vec<Run> = programs.iter().map(|program| own_run(program, &table, &guards)).collect();
         let image = image(rule, &programs);
-        let area = settled_area(&image, &table);
+        let area = settled_area(&image, &table, &guards);
         for (number, run) in runs.iter().enumerate() {
-            let cause = why(&image, &table, &area, number);
+            let cause = why(&image, &table, &guards, &area, number);
             assert_eq!(cause, cause_by_runs(run, &runs[..number], rule), "seed {seed}, program {number}");
             told[cause.reason as usize] += 1;
         }

@@ -16,7 +16,7 @@ const CUT: usize = 20;
 pub fn inputs() -> Vec<Vec<u8>> {
     let instructions = [bad_instructions(), bad_places(), two_bad_instructions()].concat();
     let earned = [prefixes(), sizes(), headers(), offsets(), instructions, first_row_decides()];
-    [earned.concat(), changed(), cut()].concat()
+    [earned.concat(), changed(), cut(good_and_short(), 4)].concat()
 }
 
 /// "Fewer bytes than that prefix needs, or T outside 1 to 256": refused 5. A prefix with no image
@@ -164,9 +164,7 @@ fn changed() -> Vec<Vec<u8>> {
         let image = 2 + 4 * usize::from(input[0]);
         for _ in 0..random.between(1, 3) {
             let first = if random.percent(90) { image } else { 0 };
-            let place = random.between(first, input.len() - 1);
-            input[place] =
-                if random.percent(50) { input[place] ^ 1 << random.below(8) } else { random.byte() };
+            change_a_byte(&mut random, &mut input, first);
         }
         if input.len() < 500 {
             inputs.push(input);
@@ -175,11 +173,21 @@ fn changed() -> Vec<Vec<u8>> {
     inputs
 }
 
-/// Good inputs cut short anywhere, and with bytes added.
-fn cut() -> Vec<Vec<u8>> {
-    let mut random = Random::new(4);
+/// Changes one bit or all of a byte, from this place on.
+pub fn change_a_byte(random: &mut Random, input: &mut [u8], first: usize) {
+    let place = random.between(first, input.len() - 1);
+    input[place] = if random.percent(50) { input[place] ^ 1 << random.below(8) } else { random.byte() };
+}
+
+fn good_and_short() -> Vec<Vec<u8>> {
     let mut inputs = good::inputs();
     inputs.retain(|input| input.len() < 500);
+    inputs
+}
+
+/// The first of these good inputs, cut short anywhere or with bytes added.
+pub fn cut(mut inputs: Vec<Vec<u8>>, seed: u64) -> Vec<Vec<u8>> {
+    let mut random = Random::new(seed);
     inputs.truncate(CUT);
     for (number, input) in inputs.iter_mut().enumerate() {
         if number % 4 == 0 {
