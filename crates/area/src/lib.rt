@@ -1,4 +1,5 @@
 // The work area: where its words lie, its checks, and what its marks say (document 01, "The work area").
+#![tactic(auto)]
 ghost use Rattle.std.specs.Prelude.{◌≡◌, ◌+◌, ◌<◌, ◌≤◌, length};
 ghost use Rattle.base.specs.Words.{words};
 ghost use Rattle.base.specs.Masks.{mask_of};
@@ -10,7 +11,7 @@ ghost use Rattle.area.specs.Checks.{table_good, all_below, list_good, slot_good,
 ghost use Rattle.area.specs.Checks.{room_refusal, open_refusal, call_refusal, ended_refusal, Measured, HasSlot, Slotted, Names, Searched, Storing};
 
 // The kinds of marks: who stores a cell, and who reads it.
-#[derive(Drop)]
+#[derive(Clone, Copy)]
 pub enum MarkKind {
     Write,
     Read,
@@ -45,7 +46,7 @@ pub fn area_words(cells: u16, programs: u16) -> usize
 }
 
 // Where a list lies, and how many cells it counts.
-#[derive(Drop)]
+#[derive(Clone, Copy)]
 pub struct Span {
     pub at: usize,
     pub count: usize,

@@ -1,5 +1,6 @@
 // The arguments of the programs `cells` and `guards` as words, and what is said of those that are none: one line, however long the argument and whatever its
 // bytes. All that differs between the two programs is told by the kind of their arguments.
+#![tactic(auto)]
 ghost use Rattle.std.specs.Prelude.{◌≡◌, ◌<◌, ◌≤◌, min, length, replicate, ◌==◌, slice_index};
 ghost use Rattle.text.specs.Decimal.{numeral};
 ghost use Rattle.text.specs.Filled.{texts};
@@ -11,7 +12,7 @@ ghost use Rattle.arguments.specs.Words.{none_words, noun, counted, many_words, o
 ghost use Rattle.arguments.specs.Words.{shown_byte, byte_of, most_shown, shown_word, about, over_words, under_words, no_number_words, most_words, ArgumentSays};
 
 // What the arguments are: the cells of a table, or the ends of its guards, low and high of each cell in turn.
-#[derive(Drop)]
+#[derive(Clone, Copy)]
 pub enum Kind {
     Cells,
     Ends,
@@ -47,7 +48,7 @@ fn largest(kind: Kind) -> u32
 // ---- an argument as a word
 
 // What an argument is: a word, a number that is too large or too small, or no number.
-#[derive(Drop)]
+#[derive(Clone, Copy)]
 pub enum Reading {
     Word(u32),
     Over,

@@ -1,4 +1,5 @@
 // Reads a batch from standard input, runs it and prints what came of it: document 01, "Bench sheet". The page is made in a buffer and written once.
+#![tactic(auto)]
 
 fn main() {
     let mut bytes = [0u8; input::LONGEST];

@@ -1,11 +1,12 @@
 // The next image: document 01, "Next image". The carried programs in number order, then the fresh image's programs, with the fresh image's rule byte.
+#![tactic(auto)]
 ghost use Rattle.std.specs.Prelude.{◌≡◌, ◌≤◌, length};
 ghost use Rattle.text.specs.Writing.{Wrote};
 ghost use Rattle.carry.specs.Next.{lent_refusal, size_refusal, NextSays};
 ghost use Rattle.carry.specs.Sources.{Sources, image_from};
 
 // What the next image answers.
-#[derive(Drop)]
+#[derive(Clone, Copy)]
 pub enum Next {
     Refused(image::Refusal),
     Length(usize),

@@ -1,14 +1,14 @@
 // What the calls answer.
 
 // What shows a dependency: the lowest cell that does, and the program that its mark names.
-#[derive(Drop)]
+#[derive(Clone, Copy)]
 pub struct Cause {
     pub cell: u32,
     pub program: u32,
 }
 
 // Why a program was carried; of RAW with WAR the first pair is that of RAW.
-#[derive(Drop)]
+#[derive(Clone, Copy)]
 pub enum Why {
     Refused(image::Refusal),
     Waw(Cause),
@@ -17,7 +17,7 @@ pub enum Why {
 }
 
 // Before whom a program comes.
-#[derive(Drop)]
+#[derive(Clone, Copy)]
 pub enum Before {
     Refused(image::Refusal),
     Nobody,

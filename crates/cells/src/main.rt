@@ -1,5 +1,6 @@
 // Writes what stands before the image in a batch's input, from a table's cells as arguments in decimal: document 01, "Bench sheet". Where they are no cells
 // there is a line on standard error, and nothing is written.
+#![tactic(auto)]
 
 fn main() {
     let mut table = [0u32; image::Image::CELLS];

@@ -1,4 +1,5 @@
 // The smallest program over the library: README, "In a program of your own", shows it whole.
+#![tactic(auto)]
 
 // The image: two programs on two cells, the heater's set point and the beacon's copy of it.
 //   two programs, Rule 2; where each begins, and the end

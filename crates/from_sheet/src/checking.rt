@@ -7,7 +7,7 @@ use crate::counting::next_line;
 use crate::writing::put_instruction;
 
 // How many bytes of the program that is being read stand in the room, how many programs have begun, and what was found in those before it.
-#[derive(Drop)]
+#[derive(Clone, Copy)]
 pub struct Reading {
     pub used: usize,
     pub begun: usize,

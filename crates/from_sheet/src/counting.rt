@@ -6,7 +6,7 @@ ghost use Rattle.from_sheet.specs.Passes.{counted, last_bad, Finds, Small, Surve
 use crate::NEWLINE;
 
 // How many programs a sheet has, how many instructions, how many in the program that is being read, and how many in the longest.
-#[derive(Drop)]
+#[derive(Clone, Copy)]
 pub struct Sizes {
     pub programs: usize,
     pub instructions: usize,
@@ -38,7 +38,7 @@ fn last_bad(place: usize, rest: usize) -> usize
 }
 
 // A line, and where the next one begins.
-#[derive(Drop)]
+#[derive(Clone, Copy)]
 pub struct Found {
     pub line: sheet::Line,
     pub next: usize,
@@ -86,7 +86,7 @@ fn larger(a: usize, b: usize) -> usize
 }
 
 // What the first pass finds: the number of the first line that its place does not allow, from 1, or 0; and where that is 0, the sizes.
-#[derive(Drop)]
+#[derive(Clone, Copy)]
 pub struct Survey {
     pub bad: usize,
     pub sizes: Sizes,

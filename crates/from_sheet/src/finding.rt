@@ -11,14 +11,14 @@ use crate::counting::next_line;
 use crate::writing::put_body;
 
 // A line of a sheet by its number, from 1, and the byte that is wrong with its instruction.
-#[derive(Drop)]
+#[derive(Clone, Copy)]
 pub struct WrongLine {
     pub line: usize,
     pub byte: u8,
 }
 
 // The number of the line that begins a program, from 1, and where the line behind it begins in the sheet.
-#[derive(Drop)]
+#[derive(Clone, Copy)]
 pub struct Beginning {
     pub line: usize,
     pub next: usize,

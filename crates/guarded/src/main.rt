@@ -1,4 +1,5 @@
 // As `batch`, where the input has guards behind its cells, before the image: document 02, ask 5. The page is made in a buffer and written once.
+#![tactic(auto)]
 
 fn main() {
     let mut bytes = [0u8; input::LONGEST_GUARDED];

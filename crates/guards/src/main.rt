@@ -1,5 +1,6 @@
 // Writes the guards of a table, from the low end and the high end of each cell as arguments in decimal: document 02, ask 5. Where they are no ends there is a
 // line on standard error, and nothing is written.
+#![tactic(auto)]
 
 fn main() {
     let mut guards = [0u32; guard::ENDS * image::Image::CELLS];

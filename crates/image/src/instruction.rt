@@ -58,7 +58,7 @@ fn bits_of(op: u8) -> u32
 }
 
 // A row of the table, the kinds of a, b and c; or that there is none.
-#[derive(Drop)]
+#[derive(Clone, Copy)]
 struct Row {
     known: bool,
     a: u8,

@@ -1,4 +1,5 @@
 // The image reader: document 01, "Sizes" and "The image: counts and offsets".
+#![tactic(auto)]
 ghost use Rattle.std.specs.Prelude.{◌≡◌, true, ◌+◌, ◌*◌, ◌<◌, ◌≤◌, length};
 ghost use Rattle.image.specs.Limits.{max_program_bytes, head_bytes};
 ghost use Rattle.image.specs.Instruction.{program_fault};
@@ -12,7 +13,7 @@ mod refusals;
 pub use instruction::wrong_byte;
 
 // An image's header: how many programs it has, its rule byte and the byte that is 0.
-#[derive(Drop)]
+#[derive(Clone, Copy)]
 pub struct Image {
     pub count: u16,
     pub rule: u8,
@@ -64,7 +65,7 @@ impl Image {
 
 // A refusal: its number in documents 01 and 02, and of a bad instruction its program and its number there, otherwise 0 and 0.
 #[repr(C)]
-#[derive(Drop)]
+#[derive(Clone, Copy)]
 pub struct Refusal {
     pub number: u32,
     pub program: u32,

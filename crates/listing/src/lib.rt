@@ -1,4 +1,5 @@
 // The listed order: document 01, "Listed order".
+#![tactic(auto)]
 ghost use Rattle.std.specs.Prelude.{◌≡◌, ◌++◌, ◌+◌, ◌*◌, ◌%◌, ◌^◌, ◌<◌, ◌≤◌, length, take, drop, replicate};
 ghost use Rattle.base.specs.Words.{first, words};
 ghost use Rattle.image.specs.Limits.{max_programs, max_cells};
@@ -11,7 +12,7 @@ ghost use Rattle.listing.specs.Readers.{octet_size, with_bits, bits_for, committ
 ghost use Rattle.listing.specs.Masks.{free, Picked, Slots};
 
 // What the listed order answers.
-#[derive(Drop)]
+#[derive(Clone, Copy)]
 pub enum Listed {
     Refused(image::Refusal),
     Count(usize),

@@ -1,4 +1,5 @@
 // The machine: eight registers and the place, the nine instructions, and the run of one program (document 01, "Instructions").
+#![tactic(auto)]
 ghost use Rattle.std.specs.Prelude.{◌≡◌, ◌+◌, ◌*◌, ◌<◌, ◌≤◌, length, ◌==◌, nat_lt};
 ghost use Rattle.image.specs.Limits.{registers, instruction_bytes, max_instructions, max_program_bytes};
 ghost use Rattle.guard.specs.Guards.{guard_words, admits};
@@ -10,14 +11,14 @@ ghost use Rattle.machine.specs.Runs.{stop, next, loading, storing, perform, run_
 ghost use Rattle.machine.specs.Runs.{store_at, Named, Ready, Did, Begins, Ends, CanRun, RunSays, LastStore};
 
 // The eight registers and the place: the number of the instruction that is next.
-#[derive(Drop)]
+#[derive(Clone, Copy)]
 pub struct Machine {
     pub registers: [u32; image::Image::REGISTERS],
     pub place: usize,
 }
 
 // How a run ended.
-#[derive(Drop)]
+#[derive(Clone, Copy)]
 pub enum Run {
     Finished,
     Rejected(u8),
@@ -35,20 +36,20 @@ pub const GUARD_FAULT: u8 = 3;
 pub const KIND_UNIT: u32 = 256;
 
 // A store: to which cell, and of which value.
-#[derive(Drop)]
+#[derive(Clone, Copy)]
 pub struct Store {
     pub cell: u32,
     pub value: u32,
 }
 
 // What a turn gives: the run goes on with the machine, or stops.
-#[derive(Drop)]
+#[derive(Clone, Copy)]
 pub enum Turn {
     Next,
     Stop(Run),
 }
 
-#[derive(Drop)]
+#[derive(Clone, Copy)]
 pub struct Turned {
     pub turn: Turn,
     pub machine: Machine,
@@ -277,7 +278,7 @@ impl Machine {
 }
 
 // How a run ended, and the machine at its end.
-#[derive(Drop)]
+#[derive(Clone, Copy)]
 struct Ended {
     run: Run,
     machine: Machine,

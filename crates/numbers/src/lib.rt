@@ -1,11 +1,12 @@
 // The numbers of what gathering and settling answer (document 01, "What each refusal says") and of why a program was carried (document 02, ask 3).
+#![tactic(auto)]
 ghost use Rattle.steps.specs.Answers.{done_with, refused_by, numbers_of_gathered, numbers_of_settled};
 ghost use Rattle.causes.specs.Why.{numbers_for, numbers_of_why};
 ghost use Rattle.numbers.specs.Numbers.{Tells, CauseTells};
 
 // The refusal, or none with the slot's state and detail.
 #[repr(C)]
-#[derive(Drop)]
+#[derive(Clone, Copy)]
 pub struct StepNumbers {
     pub refusal: image::Refusal,
     pub state: u32,
@@ -55,7 +56,7 @@ pub fn of_settled(answer: steps::Settled) -> StepNumbers
 
 // The refusal, or none with the reason and its cause; the second pair is that of WAR.
 #[repr(C)]
-#[derive(Drop)]
+#[derive(Clone, Copy)]
 pub struct CauseNumbers {
     pub refusal: image::Refusal,
     pub reason: u32,

@@ -1,6 +1,7 @@
 // What a program says: a page on standard output, written once, and complaints and other words on standard error.
 // No contract can say what a call of the operating system writes, so these functions have none: they are proved to be safe and to end. The bytes of
 // each page are in the contract of the function that made it.
+#![tactic(auto)]
 
 const OUT: i32 = 1;
 

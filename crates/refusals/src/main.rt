@@ -1,6 +1,7 @@
 // Earns the rows 5 to 15 of the refusal table (document 01, and document 02's asks 3 and 5), with everything before them in order, and prints what was asked
 // and the number that came back; `refused_images` earns the rows about an image. Each line of the output is one call. The batch is the bench sheet's case 2, on
 // the cells x, y and z.
+#![tactic(auto)]
 ghost use Rattle.std.specs.Prelude.{◌≡◌, ◌<◌, ◌≤◌, length};
 ghost use Rattle.area.specs.Layout.{area_words, slot_start};
 

@@ -1,6 +1,7 @@
 // Earns the rows of the refusal table that are about an image (document 01, and document 02's ask 2): 1, 2, 3 and 41 to 44, as a fresh image 21, 22, 23 and
 // 61 to 64, and 8 of a program's number. Each line of the output is one call: what was asked and the number that came back, and of a bad instruction also
 // its program and its number there.
+#![tactic(auto)]
 ghost use Rattle.std.specs.Prelude.{◌≡◌, ◌<◌, ◌≤◌, length};
 
 // The good image's header, three programs of three instructions, and the whole.

@@ -1,5 +1,6 @@
 // Earns each row of the refusal table that a sheet or its image can earn (document 02, asks 1 and 2), on both sides, in their order, and prints what was
 // asked and what came back. Each line of the output is one call.
+#![tactic(auto)]
 
 // Room for the image of a sheet of 64 programs without instructions, and of one program of 32.
 const ROOM: usize = 136;

@@ -1,6 +1,7 @@
 // The work of the programs `batch` (document 01, "Bench sheet") and `why` (document 02, ask 3), and of `guarded` and `guarded_why`, whose inputs have guards (ask
 // 5): a batch is run from its input, and then a page is made of the image, the table, the guards and the area. Which instruction is bad, all of them say beside
 // it (ask 2).
+#![tactic(auto)]
 ghost use Rattle.std.specs.Prelude.{◌≡◌, ◌≤◌, ◌<◌, length};
 ghost use Rattle.text.specs.Writing.{Wrote, PageSays};
 ghost use Rattle.image.specs.Limits.{max_programs, max_cells};
@@ -17,14 +18,14 @@ ghost use Rattle.report.specs.Batch.{lent, gather_first, settle_first, image_sta
 ghost use Rattle.report.specs.Runs.{Leaves, RunsIn, programs_in, Fits, Runs, RunsTable, RanSays};
 
 // Where the guards of a batch come from: they are the full range for every cell, or the input has them behind its cells.
-#[derive(Drop)]
+#[derive(Clone, Copy)]
 pub enum Guards {
     FullRange,
     FromInput,
 }
 
 // What comes of an input: a refusal, or how many cells and words of what was lent are the table and the area of its settled batch.
-#[derive(Drop)]
+#[derive(Clone, Copy)]
 enum Ran {
     Refused(image::Refusal),
     Settled(usize, usize),
@@ -193,7 +194,7 @@ fn area_room() -> [u32; sheetbendle::AREA_WORDS]
 }
 
 // What is wanted of a batch: what came of it, or why.
-#[derive(Drop)]
+#[derive(Clone, Copy)]
 enum Page {
     Results,
     Reasons,

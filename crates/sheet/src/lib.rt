@@ -1,4 +1,5 @@
 // A sheet: document 02, ask 1. What its lines say, and how they are read.
+#![tactic(auto)]
 ghost use Rattle.std.specs.Prelude.{◌≡◌, ◌+◌, ◌<◌, ◌≤◌, length, take};
 ghost use Rattle.sheet.specs.Sheet.{operations, name_of, Named};
 
@@ -7,7 +8,7 @@ mod reading;
 pub use reading::{line_of, part_end};
 
 // An instruction: its operation, a number from 0 to 8 that has a name, and its three bytes.
-#[derive(Drop)]
+#[derive(Clone, Copy)]
 pub struct Instruction {
     pub op: u8,
     pub a: u8,
@@ -16,7 +17,7 @@ pub struct Instruction {
 }
 
 // What a line says; any other line says nothing that a sheet can hold.
-#[derive(Drop)]
+#[derive(Clone, Copy)]
 pub enum Line {
     Rule(u8),
     Program,
@@ -26,7 +27,7 @@ pub enum Line {
 
 // What the calls answer that read a sheet or an image and write the other: how many bytes they wrote, or why they wrote none; of a line that its place
 // does not allow its number, from 1.
-#[derive(Drop)]
+#[derive(Clone, Copy)]
 pub enum Written {
     Refused(image::Refusal),
     BadLine(usize),
@@ -40,7 +41,7 @@ pub const OPERATIONS: usize = 9;
 pub const NAME_BYTES: usize = 9;
 
 // A name: so many of these bytes.
-#[derive(Drop)]
+#[derive(Clone, Copy)]
 pub struct Name {
     pub bytes: [u8; NAME_BYTES],
     pub length: usize,

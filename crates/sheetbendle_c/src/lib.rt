@@ -1,4 +1,5 @@
 // The library for C: include/sheetbendle.h declares these functions. A slice is a pointer and a length there.
+#![tactic(auto)]
 ghost use Rattle.std.specs.Prelude.{◌≡◌, ◌^◌, ◌<◌};
 ghost use Rattle.listing.specs.Listing.{numbers_of_listed};
 ghost use Rattle.carry.specs.Next.{numbers_of_next};
@@ -9,7 +10,7 @@ ghost use Rattle.sheetbendle_c.specs.Calls.{line_shown, TextTells, ImageOfTells,
 
 // Where a program's part of the image begins, and how long it is.
 #[repr(C)]
-#[derive(Drop)]
+#[derive(Clone, Copy)]
 pub struct PartNumbers {
     pub start: usize,
     pub length: usize,
@@ -17,7 +18,7 @@ pub struct PartNumbers {
 
 // The refusal, or none with the order's count or the next image's length.
 #[repr(C)]
-#[derive(Drop)]
+#[derive(Clone, Copy)]
 pub struct CountNumbers {
     pub refusal: image::Refusal,
     pub count: u32,
@@ -25,7 +26,7 @@ pub struct CountNumbers {
 
 // The refusal, or none with the length written; of refusal 51 also the line.
 #[repr(C)]
-#[derive(Drop)]
+#[derive(Clone, Copy)]
 pub struct TextNumbers {
     pub refusal: image::Refusal,
     pub length: u32,

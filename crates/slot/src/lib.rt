@@ -1,4 +1,5 @@
 // A program's slot in the work area: where its words lie, its states, and how a run writes its log into it (document 01, "The work area").
+#![tactic(auto)]
 ghost use Rattle.std.specs.Prelude.{◌≡◌, ◌+◌, ◌≤◌, length, replicate};
 ghost use Rattle.base.specs.Words.{words};
 ghost use Rattle.slot.specs.States.{waiting, can_settle, is_in};
@@ -52,7 +53,7 @@ pub fn can_settle(state: u32) -> bool
 }
 
 // The programs that the listed order names, and those that the next image has.
-#[derive(Drop)]
+#[derive(Clone, Copy)]
 pub enum Group {
     Committed,
     Carried,
@@ -69,7 +70,7 @@ pub fn is_in(group: Group, state: u32) -> bool
 }
 
 // The lists of a slot that name cells.
-#[derive(Drop)]
+#[derive(Clone, Copy)]
 pub enum ListKind {
     Reads,
     Stores,

@@ -1,4 +1,5 @@
 // Opening, gathering and settling: document 01, "The steps".
+#![tactic(auto)]
 ghost use Rattle.std.specs.Prelude.{◌≡◌, ◌<◌, length};
 ghost use Rattle.image.specs.Image.{count_of};
 ghost use Rattle.area.specs.Checks.{Checked, Paired, Measured, Slotted};
@@ -8,14 +9,14 @@ ghost use Rattle.steps.specs.Gathering.{step_refusal, gather_refusal, GatherSays
 ghost use Rattle.steps.specs.Settling.{is_ready, settle_refusal, verdict, with_cells, settled_by, settled_table, SettleSays, Settles};
 
 // What gathering answers.
-#[derive(Drop)]
+#[derive(Clone, Copy)]
 pub enum Gathered {
     Refused(image::Refusal),
     Ran(machine::Run),
 }
 
 // Why a program is carried: one reason out of three.
-#[derive(Drop)]
+#[derive(Clone, Copy)]
 pub enum Reason {
     Waw,
     Raw,
@@ -23,7 +24,7 @@ pub enum Reason {
 }
 
 // What settling answers.
-#[derive(Drop)]
+#[derive(Clone, Copy)]
 pub enum Settled {
     Refused(image::Refusal),
     Committed,
@@ -31,7 +32,7 @@ pub enum Settled {
 }
 
 // What settling decides, with the lowest cell that shows each dependency of the reason: of RAW with WAR that of RAW first.
-#[derive(Drop)]
+#[derive(Clone, Copy)]
 pub enum Verdict {
     Commit,
     Waw(usize),

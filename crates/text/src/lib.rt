@@ -1,12 +1,13 @@
 // Text in a buffer. Each function that writes puts its bytes at a place, leaves everything else as it was and returns the place after them, so that the
 // next one goes on from there.
+#![tactic(auto)]
 ghost use Rattle.std.specs.Prelude.{◌≡◌, true, ◌&&◌, eqb, ltb, [], ◌∷◌, ◌+◌, ◌-◌, ◌*◌, ◌<◌, ◌≤◌, length, drop};
 ghost use Rattle.text.specs.Decimal.{digit, decimal, is_digit, all_digits, leads, value, numeral, over, capped};
 ghost use Rattle.text.specs.Filled.{hash, shown, filled, Shown};
 ghost use Rattle.text.specs.Writing.{Wrote, Room};
 
 // A word as a number up to the largest that is meant.
-#[derive(Drop)]
+#[derive(Clone, Copy)]
 pub enum Numeral {
     Number(u32),
     TooLarge,
@@ -60,7 +61,7 @@ pub fn decimal_length(n: u32) -> usize
 }
 
 // How far a text has come: where its next byte goes, and how many of the numbers have been used.
-#[derive(Drop)]
+#[derive(Clone, Copy)]
 pub struct Filling {
     pub to: usize,
     pub used: usize,

@@ -1,4 +1,5 @@
 // Reads an image from standard input and writes its sheet: document 02, ask 1. The page is made in a buffer and written once.
+#![tactic(auto)]
 
 fn main() {
     let mut bytes = converted::input_room();

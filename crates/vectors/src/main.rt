@@ -1,5 +1,6 @@
 // Runs the stored inputs of data/ through the work of `batch`, and then of `why`, or of `guarded` and `guarded_why` where they have guards; its output is held to
 // what an independent implementation printed (tests/vectors). A pack is a list of inputs: four bytes of length, low first, and then the bytes.
+#![tactic(auto)]
 
 ghost use Rattle.std.specs.Prelude.{◌≡◌, ◌≤◌, ◌<◌, length};
 

@@ -1,5 +1,6 @@
 // Reads a batch from standard input, runs it and says of each program why it ended as it did: document 02, ask 3. The page is made in a buffer and written
 // once.
+#![tactic(auto)]
 
 fn main() {
     let mut bytes = [0u8; input::LONGEST];

@@ -1,5 +1,6 @@
 // Writing an image: document 01, "The image: counts and offsets". The header, then where each program ends, then the programs' bytes; the programs
 // are those of an image that a mask has.
+#![tactic(auto)]
 ghost use Rattle.std.specs.Prelude.{◌≡◌, [], ◌∷◌, ◌+◌, ◌*◌, ◌<◌, ◌≤◌, length};
 ghost use Rattle.base.specs.Masks.{has_bit};
 ghost use Rattle.image.specs.Limits.{max_programs, max_program_bytes, min_bytes};
@@ -9,7 +10,7 @@ ghost use Rattle.text.specs.Writing.{Wrote, Room};
 ghost use Rattle.writer.specs.Writing.{header, Ended, EndRoom, Source};
 
 // Where the next offset goes, and where the last program placed ends.
-#[derive(Drop)]
+#[derive(Clone, Copy)]
 pub struct Place {
     pub to: usize,
     pub end: usize,

@@ -1,0 +1,13 @@
+-- The loop's invariant: what has been found is the lowest of the cells passed so far. The measure is how many are left. Assumes nothing.
+use mathlib.Core.Path.{◌≡◌}
+use Prim.Native.Nat.{◌+◌, ◌-◌, ◌≤◌, ◌<◌}
+use native.Mathlib.Omega.{arith}
+use lib.ListN.{get_or}
+use borrow.Author.Rules.{rules}
+use Rattle.base.specs.Words.{words}
+use Rattle.area.specs.Marks.{lowest_of}
+use Rattle.area.proofs.LowestCells.{lowest_start, lowest_next}
+use Rattle.area.proofs.lowest_of.Given as goal
+
+abbrev pub invariant-loop-i : goal.invariant-loop-i
+invariant-loop-i l = (l.i ≤ l.count) × (l.found ≡ lowest_of l.cells l.marks (words l.at l.i l.area) l.number l.area)

@@ -1,0 +1,11 @@
+-- The loop's invariant: the bytes below k stand there as they are shown. The measure is what is left of them. Assumes nothing.
+use Rattle.std.proofs.Common.{◌≡◌, ◌-◌, ◌≤◌, arith, rules}
+use Rattle.text.specs.Filled.{texts}
+use Rattle.text.specs.Writing.{Wrote}
+use Rattle.text.proofs.Writing.{wrote_none}
+use Rattle.text.proofs.Fillings.{texts_none, text_room, text_turn}
+use Rattle.arguments.specs.Words.{byte_of}
+use Rattle.arguments.proofs.put_shown_bytes.Given as goal
+
+abbrev pub invariant-loop-k : goal.invariant-loop-k
+invariant-loop-k l = (l.k ≤ l.count) × Wrote l.initial.out l.at (texts (byte_of l.word) l.k) l.out l.to

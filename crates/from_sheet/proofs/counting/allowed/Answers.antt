@@ -1,0 +1,20 @@
+-- In each arm the line is of that kind. Assumes nothing.
+use borrow.Author.Rules.{rules}
+use Rattle.sheet.specs.Sheet.{allowed}
+use Rattle.from_sheet.proofs.counting.allowed.Goals as goal
+
+pub returns-in-Rule : goal.returns-in-Rule
+unfolding allowed
+returns-in-Rule c = rw c.enum_told-1.given.1
+
+pub returns-in-Program : goal.returns-in-Program
+unfolding allowed
+returns-in-Program c = rw c.enum_told-in-Program-1.given.1
+
+pub returns-in-Instruction : goal.returns-in-Instruction
+unfolding allowed
+returns-in-Instruction c = rw c.enum_told-in-Instruction-1.given.1
+
+pub returns-in-Other : goal.returns-in-Other
+unfolding allowed
+returns-in-Other c = rw c.enum_told-in-Other-1.given.1

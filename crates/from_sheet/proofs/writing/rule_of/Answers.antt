@@ -1,0 +1,20 @@
+-- The first line says it. Assumes nothing.
+use borrow.Author.Rules.{rules}
+use Rattle.sheet.specs.Sheet.{rule_in, rule_of}
+use Rattle.from_sheet.proofs.writing.rule_of.Goals as goal
+
+pub returns-in-Rule : goal.returns-in-Rule
+unfolding rule_in rule_of
+returns-in-Rule c = rw (c.next_line-found.ensures.lines, c.line-1.given.1)
+
+pub returns-in-Program : goal.returns-in-Program
+unfolding rule_in rule_of
+returns-in-Program c = rw (c.next_line-found.ensures.lines, c.enum_told-1.given.1)
+
+pub returns-in-Instruction : goal.returns-in-Instruction
+unfolding rule_in rule_of
+returns-in-Instruction c = rw (c.next_line-found.ensures.lines, c.enum_told-in-Instruction-1.given.1)
+
+pub returns-in-Other : goal.returns-in-Other
+unfolding rule_in rule_of
+returns-in-Other c = rw (c.next_line-found.ensures.lines, c.enum_told-in-Other-1.given.1)

@@ -1,0 +1,26 @@
+-- `code_refusal` meets its contract. The invariants: nothing bad was found, every program passed is good, and so is every instruction passed of this
+-- one. The measures are how many are left. Leaving by the label, this program is the first that is bad. Assumes nothing.
+use mathlib.Core.Bool.{true, false}
+use mathlib.Core.Path.{◌≡◌, refl, sym, ◌∙◌}
+use Prim.Native.Nat.{◌≤◌, ◌<◌, ◌-◌}
+use native.Mathlib.Omega.{arith}
+use borrow.Author.Tests.{not-true, not-false}
+use borrow.Author.Rules.{rules}
+use lib.ListN.{length}
+use Rattle.base.proofs.Numbers.{every_none, every_more}
+use Rattle.base.specs.Words.{every}
+use Rattle.image.specs.Limits.{max_program_bytes}
+use Rattle.image.specs.Instruction.{instructions_of, place_good, program_good}
+use Rattle.image.specs.Image.{count_of, part_of}
+use Rattle.image.specs.Refusals.{none}
+use Rattle.image.proofs.Laws.{lies, part_short, program_good_lem, program_bad, no_code_refusal, code_refused}
+use Rattle.image.proofs.code_refusal.Given as goal
+
+abbrev pub invariant-loop-i : goal.invariant-loop-i
+invariant-loop-i l = (l.i ≤ l.m) × (l.found ≡ none) × (every l.i (λ k. place_good l.part k) ≡ true)
+
+abbrev pub invariant-programs : goal.invariant-programs
+invariant-programs l = (l.p ≤ l.n) × (l.found ≡ none) × (every l.p (λ q. program_good (part_of l.bytes q)) ≡ true)
+
+abbrev pub decreases-programs : goal.decreases-programs
+decreases-programs l = l.n - l.p

@@ -1,0 +1,15 @@
+-- The loop's invariant: what is found and the bits of the cells not yet passed are those of all. The measure is what is left of the count. Assumes nothing.
+use mathlib.Core.Path.{◌≡◌, ap}
+use Prim.Native.Nat.{◌+◌, ◌≤◌, ◌-◌, ◌<◌}
+use native.Mathlib.Omega.{arith}
+use lib.ListN.{get_or}
+use borrow.Author.Rules.{rules}
+use Rattle.base.specs.Words.{words}
+use Rattle.base.proofs.Walks.{words_start}
+use Rattle.image.specs.Limits.{max_cells}
+use Rattle.listing.specs.Readers.{bits_for}
+use Rattle.listing.proofs.Readers.{find_turn, find_end}
+use Rattle.listing.proofs.bits_for.Given as goal
+
+abbrev pub invariant-loop-k : goal.invariant-loop-k
+invariant-loop-k l = (l.k ≤ l.count) × (bits_for l.readers l.found (words (l.at + l.k) (l.count - l.k) l.area) ≡ bits_for l.readers 0 (words l.at l.count l.area))

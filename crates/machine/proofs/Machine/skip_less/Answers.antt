@@ -1,0 +1,6 @@
+-- The test is on the two registers' values. Assumes nothing.
+use Rattle.std.proofs.Common.{rules}
+use Rattle.machine.proofs.Machine.skip_less.Goals as goal
+
+pub returns : goal.returns
+returns c = cc

@@ -1,0 +1,41 @@
+-- The loop's invariant, `Going`: what is left of the run ends as the whole run does. The measure is what is left of the instructions, since every turn
+-- goes forward. Assumes nothing.
+use Rattle.std.proofs.Common.{◌≡◌, ◌-◌, length, sym, refl, ap, ◌∙◌, arith, rules}
+use Rattle.image.specs.Instruction.{instructions_of}
+use Rattle.guard.specs.Guards.{admits}
+use Rattle.machine.proofs.Going.{Going, going_start, going_ready, going_words, going_end, going_stop, going_next, going_forward}
+use Rattle.machine.proofs.Named.{instruction_named}
+use Rattle.machine.proofs.take_turns.Goals as goal
+
+pub loop-machine-init : goal.loop-machine-init
+loop-machine-init c =
+    (refl, going_start (admits c.args.guards.now) c.args.program.now c.args.table.now c.requires.runnable _ _ c.new-machine.ensures c.requires.no_log)
+
+pub step-turned-requires : goal.step-turned-requires
+step-turned-requires c =
+    let l = c.loop-machine in (
+      going_ready c.requires.runnable l.invariant.1 c.loop-machine-test.true,
+      instruction_named c.args.program.now c.requires.runnable.good l.machine.place c.loop-machine-test.true,
+      c.requires.pairs,
+    )
+
+pub returns-in-Stop : goal.returns-in-Stop
+returns-in-Stop c = going_stop c.requires.runnable c.loop-machine.inv.1 _ _ c.loop-machine-test.taken c.step-turned.ensures _ c.turn-1.given.1
+
+pub loop-machine-smaller : goal.loop-machine-smaller
+loop-machine-smaller c =
+    omega (
+      arith,
+      c.loop-machine-test.taken,
+      going_forward c.requires.runnable c.loop-machine.inv.1 _ _ c.loop-machine-test.taken c.step-turned.ensures c.enum_told-1.given.1,
+    )
+
+pub loop-machine-preserved : goal.loop-machine-preserved
+loop-machine-preserved c =
+    (refl, going_next c.requires.runnable c.loop-machine.inv.1 _ _ c.loop-machine-test.taken c.step-turned.ensures c.enum_told-1.given.1)
+
+pub returns : goal.returns
+returns c = going_end c.requires.runnable c.loop-machine.invariant.1 c.loop-machine-test.false
+
+-- TO DO answer same_length (same-length) has no goal now
+-- TO DO answer same-length-2 (same-length-2) has no goal now

@@ -1,0 +1,15 @@
+-- The loop's invariant: the words below c stand there. The measure is what is left of them. Assumes nothing.
+use mathlib.Core.Path.{◌≡◌}
+use Prim.Native.Nat.{◌≤◌, ◌-◌}
+use lib.ListN.{length}
+use native.Mathlib.Omega.{arith}
+use borrow.Author.Rules.{rules}
+use Rattle.text.specs.Filled.{texts}
+use Rattle.text.specs.Writing.{Wrote}
+use Rattle.text.proofs.Writing.{wrote_none}
+use Rattle.text.proofs.Fillings.{texts_none, text_room, text_turn}
+use Rattle.prefix.specs.Prefix.{cell_at}
+use Rattle.prefix.proofs.put_fours.Given as goal
+
+abbrev pub invariant-loop-c : goal.invariant-loop-c
+invariant-loop-c l = (l.c ≤ l.n) × Wrote l.initial.out l.at (texts (cell_at l.words) l.c) l.out l.to

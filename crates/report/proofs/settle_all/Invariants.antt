@@ -1,0 +1,13 @@
+-- The loop's invariant: the first k programs are settled. The measure is what is left of n. Assumes nothing.
+use mathlib.Core.Path.{◌≡◌}
+use Prim.Native.Nat.{◌≤◌, ◌-◌}
+use native.Mathlib.Omega.{arith}
+use lib.ListN.{length}
+use borrow.Author.Rules.{rules}
+use Rattle.report.specs.Batch.{lent, settle_first}
+use Rattle.report.specs.Runs.{Leaves}
+use Rattle.report.proofs.Batches.{leaves_none, leaves_more}
+use Rattle.report.proofs.settle_all.Given as goal
+
+abbrev pub invariant-loop-k : goal.invariant-loop-k
+invariant-loop-k l = (l.k ≤ l.n) × (length l.table ≡ length l.initial.table) × (length l.area ≡ length l.initial.area) × Leaves (settle_first l.image l.guards (lent l.initial.table l.initial.area) l.k) l.table l.area

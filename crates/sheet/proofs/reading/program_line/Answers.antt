@@ -1,0 +1,15 @@
+-- The comparison decides. Assumes nothing.
+use mathlib.Core.Path.{refl, sym, ◌∙◌}
+use borrow.Author.Rules.{rules}
+use Rattle.sheet.specs.Sheet.{program_line}
+use Rattle.sheet.proofs.reading.program_line.Goals as goal
+
+pub returns-then-same : goal.returns-then-same
+unfolding program_line
+returns-then-same c = rw (sym c.same.ensures ∙ c.if-same.true)
+
+pub returns-else-same : goal.returns-else-same
+unfolding program_line
+returns-else-same c = rw (sym c.same.ensures ∙ c.if-same.false)
+
+-- TO DO anonymous, one of same-requires: refl)

@@ -1,0 +1,12 @@
+-- Each group is asked for its own state. Assumes nothing.
+use borrow.Author.Rules.{rules}
+use Rattle.slot.specs.States.{is_in, is_committed, is_carried}
+use Rattle.slot.proofs.is_in.Goals as goal
+
+pub returns-in-Committed : goal.returns-in-Committed
+unfolding is_committed is_in
+returns-in-Committed c = rw c.enum_told-1.given.1
+
+pub returns-in-Carried : goal.returns-in-Carried
+unfolding is_carried is_in
+returns-in-Carried c = rw c.enum_told-in-Carried-1.given.1
