@@ -39,8 +39,3 @@ returns c =
     let a = c.args in
     let n = shown_itself a.byte a.at.used a.numbers.now is-itself in
     record { wrote = rw n.0 c.put_byte-to.ensures; numbers = sym n.1 }
-
--- TO DO anonymous, one of shows_number-requires, offset_bounds-numbers-used, bounds-numbers-used: omega (arith, there-is c))
--- TO DO anonymous, one of shows_number-requires, offset_bounds-numbers-used, bounds-numbers-used: there-is c)
--- TO DO anonymous, one of shows_number-requires, offset_bounds-numbers-used, bounds-numbers-used: omega (arith, c.shared_slice_known-then-shows_number-1.given c.args.at.used))
--- TO DO anonymous, one of overflow_add-result: omega (arith, there-is c))
