@@ -1,6 +1,6 @@
 -- `image_refusal` meets its contract: at each return the checks that led there have passed, and the last of them answers. Assumes nothing.
 use mathlib.Core.Path.{◌≡◌, ap, sym, ◌∙◌}
-use mathlib.Core.Bool.{true}
+use mathlib.Core.Bool.{true, not}
 use mathlib.Core.List.{List}
 use Prim.Native.Nat.{ℕ}
 use native.Mathlib.Omega.{arith}
@@ -13,7 +13,7 @@ use Rattle.image.proofs.image_refusal.Goals as goal
 
 pub returns-then-not-size_good : goal.returns-then-not-size_good
 unfolding refusal_of
-returns-then-not-size_good c = refuses _ c.size_good.ensures c.if-not-size_good.true
+returns-then-not-size_good c = refuses _ c.size_good.ensures (ap not c.if-not-size_good.true)
 
 pub returns-then-not-valid : goal.returns-then-not-valid
 unfolding refusal_of
@@ -22,7 +22,7 @@ returns-then-not-valid c =
         sym c.size_good.ensures ∙ c.if-not-size_good.false in
     let valid-is : c.valid.result ≡ header_good (header_of (c.args.bytes.now)) =
         c.valid.ensures ∙ ap header_good c.header-image.ensures in
-    goes_on _ size-is-good (refuses _ valid-is c.if-not-valid.true)
+    goes_on _ size-is-good (refuses _ valid-is (ap not c.if-not-valid.true))
 
 pub offsets_good-requires : goal.offsets_good-requires
 offsets_good-requires c =
@@ -39,7 +39,7 @@ returns-then-not-offsets_good c =
         c.valid.ensures ∙ ap header_good c.header-image.ensures in
     let header-is-good : header_good (header_of (c.args.bytes.now)) ≡ true =
         sym valid-is ∙ c.if-not-valid.false in
-    goes_on _ size-is-good (goes_on _ header-is-good (refuses _ c.offsets_good.ensures c.if-not-offsets_good.true))
+    goes_on _ size-is-good (goes_on _ header-is-good (refuses _ c.offsets_good.ensures (ap not c.if-not-offsets_good.true)))
 
 pub code_refusal-requires : goal.code_refusal-requires
 code_refusal-requires c =

@@ -10,10 +10,6 @@ use Rattle.image.specs.Image.{count_of, refusal_of, program_refusal_of}
 use Rattle.image.proofs.Refusing.{fails, goes_on, first_refuses, first_passes}
 use Rattle.image.proofs.program_refusal.Goals as goal
 
--- checks 1 to 4 have passed
-passed : (c : tie.Else1) {x rest : Refusal} → x ≡ rest → x ≡ after (refusal_of (start c).args.image.now) rest
-passed c = first_passes c.before.before.image-refusal.ensures c.if1.false
-
 pub returns-then-refused-ne0 : goal.returns-then-refused-ne0
 unfolding program_refusal_of
 returns-then-refused-ne0 c = record { answer = first_refuses _ c.image_refusal-refused.ensures c.if-refused-ne0.true }
@@ -23,13 +19,11 @@ unfolding program_refusal_of
 returns-then-number-count c =
     let a = c.args in
     let l : a.number < count_of a.image.now = omega (arith, c.count.ensures.0) in
-    record { answer = passed c (goes_on _ (lt-ltb _ _ l) refl) }
+    record { answer = first_passes c.image_refusal-refused.ensures c.if-refused-ne0.false (goes_on _ (lt-ltb _ _ l) refl) }
 
 pub returns-else-number-count : goal.returns-else-number-count
 unfolding program_refusal_of
 returns-else-number-count c =
     let a = c.args in
     let l : count_of a.image.now ≤ a.number = omega (arith, c.count.ensures.0) in
-    record { answer = passed c (fails _ (le-ltb _ _ l)) }
-
--- TO DO helper passed : (c : tie.Else1) {x rest : Refusal} → x ≡ rest → x ≡ after (refusal_of (start c).args.image.now) rest
+    record { answer = first_passes c.image_refusal-refused.ensures c.if-refused-ne0.false (fails _ (le-ltb _ _ l)) }

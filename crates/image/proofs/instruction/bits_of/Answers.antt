@@ -45,17 +45,4 @@ returns-in-8 c = rw c.in-8.is c.packed-in-8.ensures
 
 pub returns-in-9-to-255 : goal.returns-in-9-to-255
 returns-in-9-to-255 c =
-    let none = c.in-0.rest in
-    let four : 4 ≤ c.args.op =
-    omega (arith, none.0.0.0.0.0.0.0.0.1, none.0.0.0.0.0.0.0.1, none.0.0.0.0.0.0.1, none.0.0.0.0.0.1) in
-    no_bits c.args.op (omega (arith, four, none.0.0.0.0.1, none.0.0.0.1, none.0.0.1, none.0.1, none.1))
-
--- TO DO step in-0
--- TO DO step in-1
--- TO DO step in-2
--- TO DO step in-3
--- TO DO step in-4
--- TO DO step in-5
--- TO DO step in-6
--- TO DO step in-7
--- TO DO step in-8
+    no_bits c.args.op (omega arith)
