@@ -6,4 +6,4 @@ use Rattle.guard.proofs.less.Goals as goal
 pub returns : goal.returns
 returns c =
     let a = c.args in
-    rw (c.wrapping_add_u32.ensures, c.wrapping_add_u32-2.ensures) (sym (signed_order a.x a.y (search rules) (search rules)))
+    rw (c.wrapping_add_u32.ensures.value, c.wrapping_add_u32-2.ensures.value) (sym (signed_order a.x a.y (search rules) (search rules)))

@@ -5,8 +5,8 @@ use Rattle.slot.proofs.is_in.Goals as goal
 
 pub returns-in-Committed : goal.returns-in-Committed
 unfolding is_committed is_in
-returns-in-Committed c = rw c.enum_told-1.given.1
+returns-in-Committed c = rw c.in-Committed.is
 
 pub returns-in-Carried : goal.returns-in-Carried
 unfolding is_carried is_in
-returns-in-Carried c = rw c.enum_told-in-Carried-1.given.1
+returns-in-Carried c = rw c.in-Carried.is
