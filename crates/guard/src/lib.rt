@@ -1,5 +1,6 @@
 // Guarded cells (document 02, ask 5): a word read as a signed number, the guard list, and which values it lets into a cell.
 #![tactic(auto)]
+
 ghost use Rattle.std.specs.Prelude.{◌≡◌, ◌+◌, ◌*◌, ◌<◌, length, int_lt};
 ghost use Rattle.guard.specs.Signed.{signed};
 ghost use Rattle.guard.specs.Guards.{guard_words, pairs_for, admits, full_end, full_range};

@@ -1,5 +1,6 @@
 // The image reader: document 01, "Sizes" and "The image: counts and offsets".
 #![tactic(auto)]
+
 ghost use Rattle.std.specs.Prelude.{◌≡◌, true, ◌+◌, ◌*◌, ◌<◌, ◌≤◌, length};
 ghost use Rattle.image.specs.Limits.{max_program_bytes, head_bytes};
 ghost use Rattle.image.specs.Instruction.{program_fault};

@@ -1,5 +1,6 @@
 // Sets of programs as masks, a bit each: whether a set has a program, how many it has, all of them, and the smallest.
 #![tactic(auto)]
+
 ghost use Rattle.std.specs.Prelude.{◌≡◌, true, cond, ◌+◌, ◌^◌, ◌<◌, ◌≤◌};
 ghost use Rattle.base.specs.Words.{count};
 ghost use Rattle.base.specs.Masks.{word_bits, has_bit, mask_of, Least};

@@ -1,6 +1,7 @@
 // What stands before the image in a batch's input (document 01, "Bench sheet"): T in two bytes and T cells of four, low byte first. And the guards of a table
 // (document 02, ask 5): four bytes for each end, low byte first.
 #![tactic(auto)]
+
 ghost use Rattle.std.specs.Prelude.{◌≡◌, ◌+◌, ◌*◌, ◌≤◌, length, replicate};
 ghost use Rattle.text.specs.Writing.{Wrote, Room, PageSays};
 ghost use Rattle.image.specs.Limits.{max_cells};

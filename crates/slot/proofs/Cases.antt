@@ -4,7 +4,7 @@ use Prim.Native.Nat.{ℕ, zero, suc}
 use mathlib.Core.Bool.{true, false}
 use mathlib.Core.List.{List, [], ◌∷◌, ◌++◌, map}
 use mathlib.Core.Path.{◌≡◌, refl}
-use lib.ListN.{length, replicate}
+use lib.ListN.{replicate}
 use Rattle.slot.specs.States.{waiting, gathered, rejected, faulted, committed, carried, last_state, is_end}
 use Rattle.slot.specs.Layout.{state_word, detail_word, read_count, store_count, list_words, first_read, first_store, first_value, slot_words}
 use Rattle.slot.specs.Log.{Log, empty, place_in, newest_in, loaded, with_read, with_store, layout, log_of}

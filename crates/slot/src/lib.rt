@@ -1,5 +1,6 @@
 // A program's slot in the work area: where its words lie, its states, and how a run writes its log into it (document 01, "The work area").
 #![tactic(auto)]
+
 ghost use Rattle.std.specs.Prelude.{◌≡◌, ◌+◌, ◌≤◌, length, replicate};
 ghost use Rattle.base.specs.Words.{words};
 ghost use Rattle.slot.specs.States.{waiting, can_settle, is_in};

@@ -1,6 +1,7 @@
 // Text in a buffer. Each function that writes puts its bytes at a place, leaves everything else as it was and returns the place after them, so that the
 // next one goes on from there.
 #![tactic(auto)]
+
 ghost use Rattle.std.specs.Prelude.{◌≡◌, true, ◌&&◌, eqb, ltb, [], ◌∷◌, ◌+◌, ◌-◌, ◌*◌, ◌<◌, ◌≤◌, length, drop};
 ghost use Rattle.text.specs.Decimal.{digit, decimal, is_digit, all_digits, leads, value, numeral, over, capped};
 ghost use Rattle.text.specs.Filled.{hash, shown, filled, Shown};

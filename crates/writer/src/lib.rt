@@ -1,6 +1,7 @@
 // Writing an image: document 01, "The image: counts and offsets". The header, then where each program ends, then the programs' bytes; the programs
 // are those of an image that a mask has.
 #![tactic(auto)]
+
 ghost use Rattle.std.specs.Prelude.{◌≡◌, [], ◌∷◌, ◌+◌, ◌*◌, ◌<◌, ◌≤◌, length};
 ghost use Rattle.base.specs.Masks.{has_bit};
 ghost use Rattle.image.specs.Limits.{max_programs, max_program_bytes, min_bytes};

@@ -1,5 +1,5 @@
 -- The value is below the low end or not; then the other end decides. Assumes nothing.
-use Rattle.std.proofs.Common.{sym, ◌∙◌, rules}
+use Rattle.std.proofs.Common.{sym, ◌∙◌}
 use Rattle.guard.proofs.Laws.{too_low, high_enough}
 use Rattle.guard.proofs.admits.Goals as goal
 

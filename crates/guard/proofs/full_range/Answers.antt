@@ -1,5 +1,5 @@
 -- The loop's invariant: the words below i are ends of the full range, and the length stays. The measure is what is left of it. Assumes nothing.
-use Rattle.std.proofs.Common.{◌≡◌, ℕ, ◌-◌, ◌<◌, ◌≤◌, length, get_or, arith, length-set, rules, below_none}
+use Rattle.std.proofs.Common.{arith, length-set, rules, below_none}
 use Rattle.base.proofs.Tables.{tabulate_is, table_more}
 use Rattle.guard.specs.Guards.{full_end}
 use Rattle.guard.proofs.full_range.Goals as goal

@@ -1,5 +1,5 @@
 -- The test is the definition's. Assumes nothing.
-use Rattle.std.proofs.Common.{refl, rules}
+use Rattle.std.proofs.Common.{refl}
 use Rattle.guard.specs.Guards.{pairs_for}
 use Rattle.guard.proofs.pairs_for.Goals as goal
 

@@ -1,18 +1,15 @@
 -- `code_refusal` meets its contract. The invariants: nothing bad was found, every program passed is good, and so is every instruction passed of this
 -- one. The measures are how many are left. Leaving by the label, this program is the first that is bad. Assumes nothing.
-use mathlib.Core.Bool.{true, false}
+use mathlib.Core.Bool.{false}
 use mathlib.Core.Path.{◌≡◌, refl, sym, ◌∙◌}
-use Prim.Native.Nat.{◌≤◌, ◌<◌, ◌-◌}
+use Prim.Native.Nat.{◌≤◌, ◌<◌}
 use native.Mathlib.Omega.{arith}
-use borrow.Author.Tests.{not-true, not-false}
 use borrow.Author.Rules.{rules}
 use lib.ListN.{length}
 use Rattle.base.proofs.Numbers.{every_none, every_more}
-use Rattle.base.specs.Words.{every}
 use Rattle.image.specs.Limits.{max_program_bytes}
-use Rattle.image.specs.Instruction.{instructions_of, place_good, program_good}
+use Rattle.image.specs.Instruction.{instructions_of, place_good}
 use Rattle.image.specs.Image.{count_of, part_of}
-use Rattle.image.specs.Refusals.{none}
 use Rattle.image.proofs.Laws.{lies, part_short, program_good_lem, program_bad, no_code_refusal, code_refused}
 use Rattle.image.proofs.code_refusal.Goals as goal
 
@@ -28,13 +25,13 @@ loop-i-init c = (search rules, c.programs.invariant.1, every_none _)
 pub place_good-requires : goal.place_good-requires
 place_good-requires c =
     let short : length c.part_of-part.result.now ≤ max_program_bytes =
-        rw c.part_of-part.ensures.bytes_are (part_short _ c.requires.0 _ (omega arith)) in
+    rw c.part_of-part.ensures.bytes_are (part_short _ c.requires.0 _ (omega arith)) in
     (search rules, short)
 
 pub program_fault-found-requires : goal.program_fault-found-requires
 program_fault-found-requires c =
     let short : length c.part_of-part.result.now ≤ max_program_bytes =
-        rw c.part_of-part.ensures.bytes_are (part_short _ c.requires.0 _ (omega arith)) in
+    rw c.part_of-part.ensures.bytes_are (part_short _ c.requires.0 _ (omega arith)) in
     (short, search rules)
 
 pub loop-i-preserved : goal.loop-i-preserved

@@ -1,19 +1,12 @@
 -- `code_refusal` meets its contract. The invariants: nothing bad was found, every program passed is good, and so is every instruction passed of this
 -- one. The measures are how many are left. Leaving by the label, this program is the first that is bad. Assumes nothing.
-use mathlib.Core.Bool.{true, false}
-use mathlib.Core.Path.{◌≡◌, refl, sym, ◌∙◌}
-use Prim.Native.Nat.{◌≤◌, ◌<◌, ◌-◌}
-use native.Mathlib.Omega.{arith}
-use borrow.Author.Tests.{not-true, not-false}
-use borrow.Author.Rules.{rules}
-use lib.ListN.{length}
-use Rattle.base.proofs.Numbers.{every_none, every_more}
+use mathlib.Core.Bool.{true}
+use mathlib.Core.Path.{◌≡◌}
+use Prim.Native.Nat.{◌≤◌, ◌-◌}
 use Rattle.base.specs.Words.{every}
-use Rattle.image.specs.Limits.{max_program_bytes}
-use Rattle.image.specs.Instruction.{instructions_of, place_good, program_good}
-use Rattle.image.specs.Image.{count_of, part_of}
+use Rattle.image.specs.Instruction.{place_good, program_good}
+use Rattle.image.specs.Image.{part_of}
 use Rattle.image.specs.Refusals.{none}
-use Rattle.image.proofs.Laws.{lies, part_short, program_good_lem, program_bad, no_code_refusal, code_refused}
 use Rattle.image.proofs.code_refusal.Given as goal
 
 abbrev pub invariant-loop-i : goal.invariant-loop-i

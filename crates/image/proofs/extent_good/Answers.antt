@@ -2,7 +2,6 @@
 use Prim.Native.Nat.{◌+◌, ◌<◌, ◌≤◌}
 use native.Mathlib.Omega.{arith}
 use borrow.Author.Tests.{lt-leb, le-leb}
-use borrow.Author.Rules.{rules}
 use Rattle.image.specs.Image.{offset_of, extent_good}
 use Rattle.image.proofs.extent_good.Goals as goal
 

@@ -1,11 +1,7 @@
 -- `extents_good` meets its contract. The loop's invariant: each program passed has a good extent. The measure is how many are left. Assumes nothing.
 use mathlib.Core.Path.{◌≡◌, sym, ◌∙◌}
-use mathlib.Core.Bool.{true}
-use Prim.Native.Nat.{◌≤◌, ◌-◌}
 use native.Mathlib.Omega.{arith}
 use borrow.Author.Rules.{rules}
-use borrow.Author.Tests.{not-true, not-false}
-use Rattle.base.specs.Words.{every}
 use Rattle.base.proofs.Numbers.{every_none, every_more, every_false}
 use Rattle.image.specs.Image.{count_of, extent_good, extents_good}
 use Rattle.image.proofs.extents_good.Goals as goal
@@ -22,11 +18,10 @@ returns-then-not-extent_good c =
     (sym c.extent_good.ensures ∙ c.if-not-extent_good.true))
 
 pub loop-p-preserved : goal.loop-p-preserved
-loop-p-preserved c =
-    (
+loop-p-preserved c = (
   search rules,
   every_more _ _ c.loop-p.invariant.1 (sym c.extent_good.ensures ∙ c.if-not-extent_good.false),
-    )
+)
 
 pub returns : goal.returns
 unfolding extents_good

@@ -3,7 +3,6 @@
 use mathlib.Core.Path.{◌≡◌, sym, ◌∙◌}
 use native.Mathlib.Nat.{zero-add}
 use native.Mathlib.Omega.{arith}
-use borrow.Author.Rules.{rules}
 use Rattle.image.specs.Image.{program_refusal_of}
 use Rattle.image.proofs.Refusing.{number_of}
 use Rattle.image.proofs.Laws.{lies, accepted, handed_back, handed_low, handed_part, handed_nothing}
@@ -12,7 +11,7 @@ use Rattle.image.proofs.program.Goals as goal
 pub part_of-requires : goal.part_of-requires
 part_of-requires c =
     let found : (let a = c.args in (program_refusal_of a.image.now a.number).number ≡ 0) =
-        number_of (sym c.program_refusal.ensures.answer) ∙ c.if-program_refusal-eq0.true in
+    number_of (sym c.program_refusal.ensures.answer) ∙ c.if-program_refusal-eq0.true in
     let a = c.args in
     let asked = handed_back a.image.now a.number found in
     (lies _ (accepted _ asked.0).offsets _ (omega (arith, asked.1)), omega (arith, handed_low a.image.now a.number found))
@@ -20,7 +19,7 @@ part_of-requires c =
 pub returns-then-program_refusal-eq0 : goal.returns-then-program_refusal-eq0
 returns-then-program_refusal-eq0 c =
     let found : (let a = c.args in (program_refusal_of a.image.now a.number).number ≡ 0) =
-        number_of (sym c.program_refusal.ensures.answer) ∙ c.if-program_refusal-eq0.true in
+    number_of (sym c.program_refusal.ensures.answer) ∙ c.if-program_refusal-eq0.true in
     let a = c.args in
     let given = c.part_of.ensures in
     let is = handed_part a.image.now a.number found in

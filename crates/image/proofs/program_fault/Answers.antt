@@ -1,14 +1,9 @@
 -- `program_fault` meets its contract. The loop's invariant: each instruction passed is good. The measure is how many are left. Where one is not good, it is
 -- the first. Assumes nothing.
-use mathlib.Core.Path.{◌≡◌, sym, ◌∙◌}
-use mathlib.Core.Bool.{true}
-use Prim.Native.Nat.{◌≤◌, ◌-◌}
+use mathlib.Core.Path.{sym, ◌∙◌}
 use native.Mathlib.Omega.{arith}
 use borrow.Author.Rules.{rules}
-use borrow.Author.Tests.{not-true, not-false}
-use Rattle.base.specs.Words.{every}
 use Rattle.base.proofs.Numbers.{every_none, every_more}
-use Rattle.image.specs.Instruction.{place_good}
 use Rattle.image.proofs.Faults.{program_none, program_found}
 use Rattle.image.proofs.program_fault.Goals as goal
 
@@ -28,11 +23,10 @@ returns-then-not-place_good c =
     ∙ program_found a.p a.program.now c.loop-i.i (omega arith) c.loop-i.invariant.1 (sym c.place_good.ensures ∙ c.if-not-place_good.true)
 
 pub loop-i-preserved : goal.loop-i-preserved
-loop-i-preserved c =
-    (
+loop-i-preserved c = (
   search rules,
   every_more _ _ c.loop-i.invariant.1 (sym c.place_good.ensures ∙ c.if-not-place_good.false),
-    )
+)
 
 pub returns : goal.returns
 returns c =

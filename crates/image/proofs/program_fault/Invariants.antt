@@ -1,15 +1,10 @@
 -- `program_fault` meets its contract. The loop's invariant: each instruction passed is good. The measure is how many are left. Where one is not good, it is
 -- the first. Assumes nothing.
-use mathlib.Core.Path.{◌≡◌, sym, ◌∙◌}
+use mathlib.Core.Path.{◌≡◌}
 use mathlib.Core.Bool.{true}
-use Prim.Native.Nat.{◌≤◌, ◌-◌}
-use native.Mathlib.Omega.{arith}
-use borrow.Author.Rules.{rules}
-use borrow.Author.Tests.{not-true, not-false}
+use Prim.Native.Nat.{◌≤◌}
 use Rattle.base.specs.Words.{every}
-use Rattle.base.proofs.Numbers.{every_none, every_more}
 use Rattle.image.specs.Instruction.{place_good}
-use Rattle.image.proofs.Faults.{program_none, program_found}
 use Rattle.image.proofs.program_fault.Given as goal
 
 abbrev pub invariant-loop-i : goal.invariant-loop-i

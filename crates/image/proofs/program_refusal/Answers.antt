@@ -1,12 +1,9 @@
 -- `program_refusal` meets its contract: the image's own refusal comes first, then the number is compared with the count. Assumes nothing.
-use mathlib.Core.Path.{◌≡◌, refl}
+use mathlib.Core.Path.{refl}
 use Prim.Native.Nat.{◌<◌, ◌≤◌}
 use native.Mathlib.Omega.{arith}
-use borrow.Author.Rules.{rules}
 use borrow.Author.Tests.{lt-ltb, le-ltb}
-use Rattle.image.specs.declared.Refusal.{Refusal}
-use Rattle.image.specs.Refusals.{after}
-use Rattle.image.specs.Image.{count_of, refusal_of, program_refusal_of}
+use Rattle.image.specs.Image.{count_of, program_refusal_of}
 use Rattle.image.proofs.Refusing.{fails, goes_on, first_refuses, first_passes}
 use Rattle.image.proofs.program_refusal.Goals as goal
 

@@ -1,5 +1,4 @@
 -- `second_rule` meets its contract: it compares the byte that `rule` ensures. Assumes nothing.
-use borrow.Author.Rules.{rules}
 use Rattle.image.proofs.second_rule.Goals as goal
 
 pub returns : goal.returns

@@ -4,7 +4,6 @@ use mathlib.Core.Bool.{true}
 use Prim.Native.Nat.{◌<◌}
 use native.Mathlib.Omega.{arith}
 use lib.Pow.{pow_pos}
-use borrow.Author.Rules.{rules}
 use Rattle.base.specs.Masks.{word_bits, mask_of}
 use Rattle.base.proofs.Masks.{mask_all, shifted}
 use Rattle.masks.proofs.all.Goals as goal
@@ -15,11 +14,11 @@ returns-then-n-eq64 c = sym (ap (mask_of (λ k. true)) c.if-n-eq64.true ∙ mask
 pub overflow_sub-result : goal.overflow_sub-result
 overflow_sub-result c =
     let low : c.args.n < word_bits =
-        omega arith in
+    omega arith in
     let n = c.args.n in omega (arith, shifted n low, pow_pos n)
 
 pub returns : goal.returns
 returns c =
     let low : c.args.n < word_bits =
-        omega arith in
+    omega arith in
     let n = c.args.n in omega (arith, shifted n low, mask_all n)

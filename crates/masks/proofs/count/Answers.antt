@@ -1,9 +1,7 @@
 -- The loop's invariant: `found` is how many of the programs below k the mask has. The measure is what is left of n. Assumes nothing.
 use mathlib.Core.Path.{◌≡◌, sym, ◌∙◌}
-use Prim.Native.Nat.{◌≤◌, ◌-◌}
 use native.Mathlib.Omega.{arith}
 use borrow.Author.Rules.{rules}
-use Rattle.base.specs.Words.{count}
 use Rattle.base.proofs.Counts.{count_none, count_in_lem, count_out}
 use Rattle.base.specs.Masks.{has_bit}
 use Rattle.masks.proofs.count.Goals as goal
@@ -17,8 +15,8 @@ loop-k-preserved c =
     let l = c.loop-k in
     let p = has_bit c.args.mask in
     elim c.if-has.branch [
-      then-has w ↦ (omega arith, omega arith, omega (arith, l.invariant.2, count_in_lem p l.k (sym c.has.ensures ∙ w.if-has.true)))
-    | else-has w ↦ (omega arith, omega arith, omega (arith, l.invariant.2, count_out p l.k (sym c.has.ensures ∙ w.if-has.false)))
+      | then-has w ↦ (omega arith, omega arith, omega (arith, l.invariant.2, count_in_lem p l.k (sym c.has.ensures ∙ w.if-has.true)))
+      | else-has w ↦ (omega arith, omega arith, omega (arith, l.invariant.2, count_out p l.k (sym c.has.ensures ∙ w.if-has.false)))
     ]
 
 pub returns : goal.returns

@@ -1,11 +1,7 @@
 -- The loop's invariant: `found` is how many of the programs below k the mask has. The measure is what is left of n. Assumes nothing.
-use mathlib.Core.Path.{◌≡◌, sym, ◌∙◌}
-use mathlib.Core.Logic.{⊎_elim}
-use Prim.Native.Nat.{◌≤◌, ◌-◌}
-use native.Mathlib.Omega.{arith}
-use borrow.Author.Rules.{rules}
+use mathlib.Core.Path.{◌≡◌}
+use Prim.Native.Nat.{◌≤◌}
 use Rattle.base.specs.Words.{count}
-use Rattle.base.proofs.Counts.{count_none, count_in_lem, count_out}
 use Rattle.base.specs.Masks.{has_bit}
 use Rattle.masks.proofs.count.Given as goal
 

@@ -1,7 +1,6 @@
 -- A bit that is set is added: the mask has none there yet. Assumes nothing.
 use native.Mathlib.Omega.{arith}
 use Rattle.base.proofs.Masks.{bit_in}
-use borrow.Author.Rules.{rules}
 use Rattle.masks.proofs.with_bit.Goals as goal
 
 pub returns-then-set : goal.returns-then-set

@@ -1,5 +1,4 @@
 -- The 16 low bits, and behind them the 16 high ones. Assumes nothing.
-use borrow.Author.Rules.{rules}
 use Rattle.text.proofs.Writing.{wrote_both}
 use Rattle.prefix.proofs.put_four.Goals as goal
 

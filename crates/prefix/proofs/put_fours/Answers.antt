@@ -1,11 +1,8 @@
 -- The loop's invariant: the words below c stand there. The measure is what is left of them. Assumes nothing.
 use mathlib.Core.Path.{◌≡◌}
-use Prim.Native.Nat.{◌≤◌, ◌-◌}
 use lib.ListN.{length}
 use native.Mathlib.Omega.{arith}
 use borrow.Author.Rules.{rules}
-use Rattle.text.specs.Filled.{texts}
-use Rattle.text.specs.Writing.{Wrote}
 use Rattle.text.proofs.Writing.{wrote_none}
 use Rattle.text.proofs.Fillings.{texts_none, text_room, text_turn}
 use Rattle.prefix.specs.Prefix.{cell_at}

@@ -1,5 +1,4 @@
 -- The words at the front. Assumes nothing.
-use borrow.Author.Rules.{rules}
 use Rattle.text.proofs.Writing.{page_says}
 use Rattle.prefix.proofs.Prefixes.{guards_room}
 use Rattle.prefix.proofs.put_guards.Goals as goal

@@ -1,5 +1,4 @@
 -- T, and behind it the cells. Assumes nothing.
-use borrow.Author.Rules.{rules}
 use Rattle.text.proofs.Writing.{room_then}
 use Rattle.prefix.proofs.Prefixes.{prefix_room, prefix_says}
 use Rattle.prefix.proofs.put_prefix.Goals as goal

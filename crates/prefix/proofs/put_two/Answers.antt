@@ -1,5 +1,4 @@
 -- The two bytes one behind the other. Assumes nothing.
-use borrow.Author.Rules.{rules}
 use Rattle.text.proofs.Writing.{wrote_both}
 use Rattle.prefix.proofs.put_two.Goals as goal
 

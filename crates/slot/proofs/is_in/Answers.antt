@@ -1,5 +1,4 @@
 -- Each group is asked for its own state. Assumes nothing.
-use borrow.Author.Rules.{rules}
 use Rattle.slot.specs.States.{is_in, is_committed, is_carried}
 use Rattle.slot.proofs.is_in.Goals as goal
 

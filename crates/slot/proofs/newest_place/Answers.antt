@@ -1,10 +1,7 @@
 -- The loop's invariant: the newest of all n words is the newest of those that are left. The measure is how many are left. Assumes nothing.
-use Prim.Native.Nat.{ℕ, suc, ◌≤◌, ◌+◌, ◌-◌}
 use mathlib.Core.Path.{◌≡◌, sym, ◌∙◌}
 use native.Mathlib.Omega.{arith}
 use borrow.Author.Rules.{rules}
-use Rattle.base.specs.Words.{words}
-use Rattle.slot.specs.Log.{newest_in}
 use Rattle.slot.proofs.Places.{newest_of_none, newest_word, newest_other}
 use Rattle.slot.proofs.newest_place.Goals as goal
 

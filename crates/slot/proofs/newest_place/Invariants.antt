@@ -1,11 +1,8 @@
 -- The loop's invariant: the newest of all n words is the newest of those that are left. The measure is how many are left. Assumes nothing.
-use Prim.Native.Nat.{ℕ, suc, ◌≤◌, ◌+◌, ◌-◌}
-use mathlib.Core.Path.{◌≡◌, sym, ◌∙◌}
-use native.Mathlib.Omega.{arith}
-use borrow.Author.Rules.{rules}
+use Prim.Native.Nat.{◌≤◌}
+use mathlib.Core.Path.{◌≡◌}
 use Rattle.base.specs.Words.{words}
 use Rattle.slot.specs.Log.{newest_in}
-use Rattle.slot.proofs.Places.{newest_of_none, newest_word, newest_other}
 use Rattle.slot.proofs.newest_place.Given as goal
 
 abbrev pub invariant-loop-left : goal.invariant-loop-left

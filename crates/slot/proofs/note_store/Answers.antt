@@ -2,7 +2,6 @@
 use mathlib.Core.Path.{sym, ◌∙◌}
 use native.Mathlib.Omega.{arith}
 use lib.ListN.{length-set}
-use borrow.Author.Rules.{rules}
 use Rattle.slot.proofs.Noted.{store_new, store_old}
 use Rattle.slot.proofs.note_store.Goals as goal
 

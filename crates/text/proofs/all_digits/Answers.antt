@@ -1,11 +1,7 @@
 -- The loop's invariant: all are digits where those from k on are. The measure is what is left of them. Assumes nothing.
-use mathlib.Core.Path.{◌≡◌, refl, sym, ◌∙◌}
-use Prim.Native.Nat.{◌≤◌, ◌-◌}
+use mathlib.Core.Path.{refl, sym, ◌∙◌}
 use native.Mathlib.Omega.{arith}
-use lib.ListN.{drop}
 use borrow.Author.Rules.{rules}
-use borrow.Author.Tests.{not-true, not-false}
-use Rattle.text.specs.Decimal.{all_digits}
 use Rattle.text.proofs.Reading.{digits_end, digits_next}
 use Rattle.text.proofs.all_digits.Goals as goal
 

@@ -1,12 +1,8 @@
 -- The loop's invariant: all are digits where those from k on are. The measure is what is left of them. Assumes nothing.
-use mathlib.Core.Path.{◌≡◌, refl, sym, ◌∙◌}
-use Prim.Native.Nat.{◌≤◌, ◌-◌}
-use native.Mathlib.Omega.{arith}
+use mathlib.Core.Path.{◌≡◌}
+use Prim.Native.Nat.{◌≤◌}
 use lib.ListN.{drop}
-use borrow.Author.Rules.{rules}
-use borrow.Author.Tests.{not-true, not-false}
 use Rattle.text.specs.Decimal.{all_digits}
-use Rattle.text.proofs.Reading.{digits_end, digits_next}
 use Rattle.text.proofs.all_digits.Given as goal
 
 abbrev pub invariant-loop-k : goal.invariant-loop-k

@@ -1,11 +1,6 @@
 -- The loop's invariant: the digits counted and those of what is left are one more than those of the number. The measure is what is left.
 -- Assumes nothing.
-use mathlib.Core.Path.{◌≡◌}
-use Prim.Native.Nat.{◌+◌}
 use native.Mathlib.Omega.{arith}
-use lib.ListN.{length}
-use borrow.Author.Rules.{rules}
-use Rattle.text.specs.Decimal.{decimal}
 use Rattle.text.proofs.Decimals.{length_small, length_large, decimal_short}
 use Rattle.text.proofs.decimal_length.Goals as goal
 

@@ -2,11 +2,8 @@
 -- Assumes nothing.
 use mathlib.Core.Path.{◌≡◌}
 use Prim.Native.Nat.{◌+◌}
-use native.Mathlib.Omega.{arith}
 use lib.ListN.{length}
-use borrow.Author.Rules.{rules}
 use Rattle.text.specs.Decimal.{decimal}
-use Rattle.text.proofs.Decimals.{length_small, length_large, decimal_short}
 use Rattle.text.proofs.decimal_length.Given as goal
 
 abbrev pub invariant-loop-rest : goal.invariant-loop-rest

@@ -1,5 +1,4 @@
 -- A short word has one byte or none; of a longer one the first byte decides. Assumes nothing.
-use borrow.Author.Rules.{rules}
 use Rattle.text.proofs.Reading.{leads_short, leads_long}
 use Rattle.text.proofs.leads.Goals as goal
 

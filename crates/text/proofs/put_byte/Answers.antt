@@ -1,5 +1,4 @@
 -- One store. Assumes nothing.
-use borrow.Author.Rules.{rules}
 use Rattle.text.proofs.Writing.{wrote_byte}
 use Rattle.text.proofs.put_byte.Goals as goal
 

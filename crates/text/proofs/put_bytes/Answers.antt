@@ -1,10 +1,9 @@
 -- The loop's invariant: the first k bytes stand at the place, the rest is as it was. The measure is what is left of them.
 -- Assumes nothing.
-use mathlib.Core.Path.{◌≡◌, refl}
-use Prim.Native.Nat.{◌≤◌, ◌-◌}
+use mathlib.Core.Path.{refl}
 use native.Mathlib.Omega.{arith}
-use lib.ListN.{length, length-set}
-use lib.Seq.{paste, paste-zero}
+use lib.ListN.{length-set}
+use lib.Seq.{paste-zero}
 use borrow.Author.Rules.{rules}
 use Rattle.text.proofs.Writing.{wrote_copy, copy_turn}
 use Rattle.text.proofs.put_bytes.Goals as goal

@@ -2,12 +2,12 @@
 -- them. Assumes nothing.
 use mathlib.Core.Path.{◌≡◌, refl, sym, ap, ◌∙◌}
 use mathlib.Core.Bool.{true}
-use Prim.Native.Nat.{ℕ, ◌+◌, ◌≤◌, ◌-◌}
+use Prim.Native.Nat.{ℕ, ◌+◌}
 use native.Mathlib.Omega.{arith}
 use lib.ListN.{get_or, drop}
 use borrow.Author.Rules.{rules}
 use Rattle.base.proofs.Bools.{and_both}
-use Rattle.text.specs.Decimal.{is_digit, all_digits, value_from, value, over, capped}
+use Rattle.text.specs.Decimal.{is_digit, all_digits, capped}
 use Rattle.text.proofs.Reading.{digits_next, value_end, value_next}
 use Rattle.text.proofs.value_of.Goals as goal
 
@@ -17,7 +17,7 @@ loop-k-init c = (search rules, search rules, c.requires, refl)
 pub with_digit-v-requires : goal.with_digit-v-requires
 with_digit-v-requires c =
     let digit-and-rest : (let word = c.args.word.now in (is_digit (get_or word c.loop-k.k 0) ≡ true) × (all_digits (drop (c.loop-k.k + 1) word) ≡ true)) =
-        let word = c.args.word.now in
+    let word = c.args.word.now in
     and_both (is_digit (get_or word c.loop-k.k 0)) (all_digits (drop (c.loop-k.k + 1) word))
     (sym (digits_next word c.loop-k.k (omega arith)) ∙ c.loop-k.invariant.2) in
     (c.loop-k.invariant.1, digit-and-rest.0)
@@ -25,7 +25,7 @@ with_digit-v-requires c =
 pub loop-k-preserved : goal.loop-k-preserved
 loop-k-preserved c =
     let digit-and-rest : (let word = c.args.word.now in (is_digit (get_or word c.loop-k.k 0) ≡ true) × (all_digits (drop (c.loop-k.k + 1) word) ≡ true)) =
-        let word = c.args.word.now in
+    let word = c.args.word.now in
     and_both (is_digit (get_or word c.loop-k.k 0)) (all_digits (drop (c.loop-k.k + 1) word))
     (sym (digits_next word c.loop-k.k (omega arith)) ∙ c.loop-k.invariant.2) in
     let word = c.args.word.now in

@@ -1,14 +1,10 @@
 -- The loop's invariant: with what has been read in front, the bytes from k on give the word's number, as far as 2^32. The measure is what is left of
 -- them. Assumes nothing.
-use mathlib.Core.Path.{◌≡◌, refl, sym, ap, ◌∙◌}
+use mathlib.Core.Path.{◌≡◌}
 use mathlib.Core.Bool.{true}
-use Prim.Native.Nat.{ℕ, ◌+◌, ◌≤◌, ◌-◌}
-use native.Mathlib.Omega.{arith}
-use lib.ListN.{get_or, drop}
-use borrow.Author.Rules.{rules}
-use Rattle.base.proofs.Bools.{and_both}
-use Rattle.text.specs.Decimal.{is_digit, all_digits, value_from, value, over, capped}
-use Rattle.text.proofs.Reading.{digits_next, value_end, value_next}
+use Prim.Native.Nat.{◌≤◌}
+use lib.ListN.{drop}
+use Rattle.text.specs.Decimal.{all_digits, value_from, value, over, capped}
 use Rattle.text.proofs.value_of.Given as goal
 
 abbrev pub invariant-loop-k : goal.invariant-loop-k

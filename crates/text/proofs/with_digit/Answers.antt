@@ -1,5 +1,4 @@
 -- The digit is one, so nothing goes below 0. Assumes nothing.
-use borrow.Author.Rules.{rules}
 use Rattle.text.proofs.Decimals.{digit_is}
 use Rattle.text.proofs.with_digit.Goals as goal
 

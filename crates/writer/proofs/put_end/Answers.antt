@@ -3,8 +3,6 @@ use mathlib.Core.Path.{◌≡◌, refl, sym, ap, ◌∙◌}
 use mathlib.Core.List.{[], ◌∷◌}
 use native.Mathlib.Omega.{arith}
 use lib.ListN.{length}
-use borrow.Author.Rules.{rules}
-use borrow.Author.Tests.{not-true, not-false}
 use Rattle.base.specs.Masks.{has_bit}
 use Rattle.image.specs.Image.{part_of}
 use Rattle.writer.specs.Picked.{pick}
@@ -24,13 +22,13 @@ part_of-part-requires c =
 pub put_number-to-requires : goal.put_number-to-requires
 put_number-to-requires c =
     let taken : (let a = c.args in pick (has_bit a.mask) a.image.now a.i ≡ part_of a.image.now a.i ∷ []) =
-        let a = c.args in
+    let a = c.args in
     pick_in (has_bit a.mask) a.image.now a.i (sym c.has.ensures ∙ c.if-not-has.false) in
     omega (arith, c.requires.2.to_fits, ap length taken)
 
 pub returns : goal.returns
 returns c =
     let taken : (let a = c.args in pick (has_bit a.mask) a.image.now a.i ≡ part_of a.image.now a.i ∷ []) =
-        let a = c.args in
+    let a = c.args in
     pick_in (has_bit a.mask) a.image.now a.i (sym c.has.ensures ∙ c.if-not-has.false) in
     rw (taken, ← c.part_of-part.ensures.bytes_are) (ended_one c.put_number-to.ensures refl)

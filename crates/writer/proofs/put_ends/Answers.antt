@@ -1,11 +1,8 @@
 -- The loop's invariant: the ends of the programs below i that the mask has stand there. The measure is what is left of n. Assumes nothing.
 use mathlib.Core.Path.{◌≡◌}
-use Prim.Native.Nat.{◌≤◌, ◌-◌}
 use native.Mathlib.Omega.{arith}
 use borrow.Author.Rules.{rules}
 use Rattle.base.specs.Masks.{has_bit}
-use Rattle.writer.specs.Picked.{picked}
-use Rattle.writer.specs.Writing.{Ended}
 use Rattle.writer.proofs.Programs.{picked_none, ended_none, end_room, end_turn}
 use Rattle.writer.proofs.put_ends.Goals as goal
 

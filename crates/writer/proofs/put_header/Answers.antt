@@ -1,7 +1,6 @@
 -- Three writes, one after another, leave the header and the first offset. Assumes nothing.
 use native.Mathlib.Omega.{arith}
 use lib.ListN.{length-append}
-use borrow.Author.Rules.{rules}
 use Rattle.writer.specs.Writing.{header}
 use Rattle.text.proofs.Writing.{wrote_more}
 use Rattle.writer.proofs.Programs.{length_number}

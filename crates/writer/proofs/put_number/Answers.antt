@@ -1,5 +1,4 @@
 -- The two bytes of the pair are the number's. Assumes nothing.
-use borrow.Author.Rules.{rules}
 use Rattle.writer.specs.Joined.{number}
 use Rattle.writer.proofs.put_number.Goals as goal
 

@@ -1,7 +1,6 @@
 -- Two stores, one after the other, leave the two bytes. Assumes nothing.
 use native.Mathlib.Omega.{arith}
 use lib.ListN.{length-set}
-use borrow.Author.Rules.{rules}
 use Rattle.text.proofs.Writing.{wrote_pair}
 use Rattle.writer.proofs.put_pair.Goals as goal
 

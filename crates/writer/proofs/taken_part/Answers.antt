@@ -1,7 +1,6 @@
 -- A program that the mask has gives its part, another gives nothing. Assumes nothing.
 use mathlib.Core.Path.{sym, ap, ◌∙◌}
 use native.Mathlib.Omega.{arith}
-use borrow.Author.Rules.{rules}
 use Rattle.base.specs.Masks.{has_bit}
 use Rattle.writer.specs.Joined.{joined}
 use Rattle.writer.proofs.Programs.{pick_in, pick_out, joined_one, joined_none}

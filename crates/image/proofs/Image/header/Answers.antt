@@ -1,5 +1,4 @@
 -- `Image::header` meets its contract: its fields are what the calls ensure. Assumes nothing.
-use borrow.Author.Rules.{rules}
 use Rattle.image.specs.Image.{number_at}
 use Rattle.image.proofs.Image.header.Goals as goal
 

@@ -1,7 +1,5 @@
 -- `bits_of` meets its contract: in each arm the operation is that number, and the answer has the bits of that row of the table. Assumes nothing.
-use Prim.Native.Nat.{◌≤◌}
 use native.Mathlib.Omega.{arith}
-use borrow.Author.Rules.{rules}
 use Rattle.image.specs.Instruction.{rows, known, kinds_of}
 use Rattle.image.specs.Bits.{zeros, bits_of}
 use Rattle.image.proofs.Bytes.{no_bits}

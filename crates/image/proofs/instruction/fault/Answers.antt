@@ -1,13 +1,12 @@
 -- `fault` meets its contract: its tests are the checks of the definition, one after another, each of the three bytes by their kinds in the row.
 -- Assumes nothing.
 use mathlib.Core.Path.{◌≡◌, refl, ap}
-use mathlib.Core.Bool.{Bool, true, false, not}
+use mathlib.Core.Bool.{Bool, false, not}
 use Prim.Native.Nat.{ℕ}
-use borrow.Author.Rules.{rules}
 use Rattle.image.specs.declared.Refusal.{Refusal}
 use Rattle.image.specs.Refusals as refusal
 use Rattle.image.specs.Refusals.{check}
-use Rattle.image.specs.Instruction.{known, kinds_of, register_good, unused_good, skip_good, each, fault_of}
+use Rattle.image.specs.Instruction.{known, register_good, unused_good, skip_good, fault_of}
 use Rattle.image.proofs.Refusing.{refuses, accepts}
 use Rattle.image.proofs.Bytes.{row_known, each_tested}
 use Rattle.image.proofs.instruction.fault.Goals as goal

@@ -1,6 +1,5 @@
 -- `place_good` meets its contract: the four bytes lie inside the program, and the definition reads the same four. Assumes nothing.
 use native.Mathlib.Nat.{add-zero}
-use borrow.Author.Rules.{rules}
 use Rattle.image.specs.Instruction.{fault_at, place_good}
 use Rattle.image.proofs.instruction.place_good.Goals as goal
 

@@ -1,5 +1,4 @@
 -- `row_of` meets its contract: each byte of the bits is the kind that they were made of. Assumes nothing.
-use borrow.Author.Rules.{rules}
 use Rattle.image.proofs.Bytes.{bits_row}
 use Rattle.image.proofs.instruction.row_of.Goals as goal
 

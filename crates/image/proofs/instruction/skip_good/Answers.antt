@@ -1,5 +1,4 @@
 -- `skip_good` meets its contract: the kind is a skip and its length is compared, or it is another and nothing is asked. Assumes nothing.
-use borrow.Author.Rules.{rules}
 use Rattle.image.specs.Instruction.{skip, skip_good}
 use Rattle.image.specs.Bits.{zeros}
 use Rattle.image.proofs.Bytes.{of_this, of_another, asks_skip, lands}

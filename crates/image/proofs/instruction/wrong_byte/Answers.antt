@@ -1,6 +1,5 @@
 -- `wrong_byte` meets its contract: the four bytes lie inside the program, and the definition reads the same four. Assumes nothing.
 use native.Mathlib.Nat.{add-zero}
-use borrow.Author.Rules.{rules}
 use Rattle.image.specs.Instruction.{fault_at, wrong_byte}
 use Rattle.image.proofs.Refusing.{number_of}
 use Rattle.image.proofs.instruction.wrong_byte.Goals as goal

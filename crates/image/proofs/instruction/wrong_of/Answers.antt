@@ -1,5 +1,4 @@
 -- `wrong_of` meets its contract: the fault names the test, and the first byte is taken that does not pass it. Assumes nothing.
-use borrow.Author.Rules.{rules}
 use borrow.Author.Tests.{eq-eqb, ne_eqb}
 use Rattle.image.specs.Instruction.{register_good, unused_good, skip_good, wrong_of}
 use Rattle.image.proofs.Bytes.{first_tested}
