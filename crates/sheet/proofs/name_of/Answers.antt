@@ -52,19 +52,5 @@ returns-in-7 c = named 7 c.in-7.is refl refl
 pub returns-in_default : goal.returns-in_default
 unfolding name_of names
 returns-in_default c =
-    let none = c.in-0.rest in
-    let from-four = above (above (above (above zero-le none.0.0.0.0.0.0.0.1) none.0.0.0.0.0.0.1) none.0.0.0.0.0.1) none.0.0.0.0.1 in
-    let from-eight = above (above (above (above from-four none.0.0.0.1) none.0.0.1) none.0.1) none.1 in
-    named 8 (only-eight from-eight c.requires) refl refl
-  where
-    only-eight : {o : ℕ} → 8 ≤ o → o < 9 → o ≡ 8
-    only-eight l h = omega arith
-
--- TO DO step in-0
--- TO DO step in-1
--- TO DO step in-2
--- TO DO step in-3
--- TO DO step in-4
--- TO DO step in-5
--- TO DO step in-6
--- TO DO step in-7
+    let is-eight : c.args.op ≡ 8 = omega arith in
+    named 8 is-eight refl refl
