@@ -1,7 +1,7 @@
 -- In each arm the operation is that number, and the bytes are its name. Assumes nothing.
 use mathlib.Core.Path.{◌≡◌, refl}
 use mathlib.Core.Bool.{true}
-use Prim.Native.Nat.{ℕ, zero-le, ◌+◌, ◌≤◌, ◌<◌}
+use Prim.Native.Nat.{ℕ}
 use native.Mathlib.Omega.{arith}
 use lib.Dec.{leb}
 use lib.ListN.{length, take}
@@ -12,9 +12,6 @@ use Rattle.sheet.proofs.name_of.Goals as goal
 
 named : {op : ℕ} {n : Name} (k : ℕ) → op ≡ k → take n.length n.bytes ≡ name_of k → leb n.length (length n.bytes) ≡ true → Named op n
 named k e f h = record { bytes_are = rw e f; long = leb-true _ _ h }
-
-above : {n o : ℕ} → n ≤ o → (o ≡ n → ⊥) → n + 1 ≤ o
-above l h = omega arith
 
 pub returns-in-0 : goal.returns-in-0
 unfolding name_of names
