@@ -1,7 +1,7 @@
 -- In each arm the operation is that number, and the bytes are its name. Assumes nothing.
 use mathlib.Core.Path.{◌≡◌, refl}
 use mathlib.Core.Bool.{true}
-use Prim.Native.Nat.{ℕ, zero-le, ◌+◌, ◌≤◌, ◌<◌}
+use Prim.Native.Nat.{ℕ}
 use native.Mathlib.Omega.{arith}
 use lib.Dec.{leb}
 use lib.ListN.{length, take}
@@ -12,9 +12,6 @@ use Rattle.sheet.proofs.name_of.Goals as goal
 
 named : {op : ℕ} {n : Name} (k : ℕ) → op ≡ k → take n.length n.bytes ≡ name_of k → leb n.length (length n.bytes) ≡ true → Named op n
 named k e f h = record { bytes_are = rw e f; long = leb-true _ _ h }
-
-above : {n o : ℕ} → n ≤ o → (o ≡ n → ⊥) → n + 1 ≤ o
-above l h = omega arith
 
 pub returns-in-0 : goal.returns-in-0
 unfolding name_of names
@@ -52,19 +49,5 @@ returns-in-7 c = named 7 c.in-7.is refl refl
 pub returns-in_default : goal.returns-in_default
 unfolding name_of names
 returns-in_default c =
-    let none = c.in-0.rest in
-    let from-four = above (above (above (above zero-le none.0.0.0.0.0.0.0.1) none.0.0.0.0.0.0.1) none.0.0.0.0.0.1) none.0.0.0.0.1 in
-    let from-eight = above (above (above (above from-four none.0.0.0.1) none.0.0.1) none.0.1) none.1 in
-    named 8 (only-eight from-eight c.requires) refl refl
-  where
-    only-eight : {o : ℕ} → 8 ≤ o → o < 9 → o ≡ 8
-    only-eight l h = omega arith
-
--- TO DO step in-0
--- TO DO step in-1
--- TO DO step in-2
--- TO DO step in-3
--- TO DO step in-4
--- TO DO step in-5
--- TO DO step in-6
--- TO DO step in-7
+    let is-eight : c.args.op ≡ 8 = omega arith in
+    named 8 is-eight refl refl

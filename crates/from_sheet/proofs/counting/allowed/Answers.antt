@@ -5,16 +5,16 @@ use Rattle.from_sheet.proofs.counting.allowed.Goals as goal
 
 pub returns-in-Rule : goal.returns-in-Rule
 unfolding allowed
-returns-in-Rule c = rw c.enum_told-1.given.1
+returns-in-Rule c = rw c.in-Rule.is
 
 pub returns-in-Program : goal.returns-in-Program
 unfolding allowed
-returns-in-Program c = rw c.enum_told-in-Program-1.given.1
+returns-in-Program c = rw c.in-Program.is
 
 pub returns-in-Instruction : goal.returns-in-Instruction
 unfolding allowed
-returns-in-Instruction c = rw c.enum_told-in-Instruction-1.given.1
+returns-in-Instruction c = rw c.in-Instruction.is
 
 pub returns-in-Other : goal.returns-in-Other
 unfolding allowed
-returns-in-Other c = rw c.enum_told-in-Other-1.given.1
+returns-in-Other c = rw c.in-Other.is

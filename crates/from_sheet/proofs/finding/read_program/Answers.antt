@@ -23,7 +23,7 @@ pub put_body-used-requires : goal.put_body-used-requires
 put_body-used-requires c =
     let next-piece : leading (lines_from c.loop-from.from c.args.sheet.now) ≡ body_of c.next_line-found.result.line ++ leading (lines_from c.next_line-found.result.next c.args.sheet.now) =
         ap leading c.next_line-found.ensures.lines ∙ leading_next _ _ (sym c.begins.ensures ∙ c.if-begins.false) in
-    partly_room c.loop-from.inv c.requires _ _ next-piece
+    partly_room c.loop-from.invariant c.requires _ _ next-piece
 
 pub loop-from-smaller : goal.loop-from-smaller
 loop-from-smaller c = omega (arith, c.next_line-found.ensures.on)
@@ -32,7 +32,7 @@ pub loop-from-preserved : goal.loop-from-preserved
 loop-from-preserved c =
     let next-piece : leading (lines_from c.loop-from.from c.args.sheet.now) ≡ body_of c.next_line-found.result.line ++ leading (lines_from c.next_line-found.result.next c.args.sheet.now) =
         ap leading c.next_line-found.ensures.lines ∙ leading_next _ _ (sym c.begins.ensures ∙ c.if-begins.false) in
-    partly_more c.loop-from.inv c.requires _ _ next-piece c.put_body-used.ensures
+    partly_more c.loop-from.invariant c.requires _ _ next-piece c.put_body-used.ensures
 
 pub returns : goal.returns
 returns c = partly_end c.loop-from.invariant (ap leading (lines_none c.args.sheet.now c.loop-from.from (omega arith)) ∙ leading_none)

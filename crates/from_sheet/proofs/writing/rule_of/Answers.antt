@@ -5,16 +5,16 @@ use Rattle.from_sheet.proofs.writing.rule_of.Goals as goal
 
 pub returns-in-Rule : goal.returns-in-Rule
 unfolding rule_in rule_of
-returns-in-Rule c = rw (c.next_line-found.ensures.lines, c.line-1.given.1)
+returns-in-Rule c = rw (c.next_line-found.ensures.lines, c.in-Rule.is)
 
 pub returns-in-Program : goal.returns-in-Program
 unfolding rule_in rule_of
-returns-in-Program c = rw (c.next_line-found.ensures.lines, c.enum_told-1.given.1)
+returns-in-Program c = rw (c.next_line-found.ensures.lines, c.in-Program.is)
 
 pub returns-in-Instruction : goal.returns-in-Instruction
 unfolding rule_in rule_of
-returns-in-Instruction c = rw (c.next_line-found.ensures.lines, c.enum_told-in-Instruction-1.given.1)
+returns-in-Instruction c = rw (c.next_line-found.ensures.lines, c.in-Instruction.is)
 
 pub returns-in-Other : goal.returns-in-Other
 unfolding rule_in rule_of
-returns-in-Other c = rw (c.next_line-found.ensures.lines, c.enum_told-in-Other-1.given.1)
+returns-in-Other c = rw (c.next_line-found.ensures.lines, c.in-Other.is)

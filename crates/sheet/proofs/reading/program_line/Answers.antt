@@ -11,5 +11,3 @@ returns-then-same c = rw (sym c.same.ensures ∙ c.if-same.true)
 pub returns-else-same : goal.returns-else-same
 unfolding program_line
 returns-else-same c = rw (sym c.same.ensures ∙ c.if-same.false)
-
--- TO DO anonymous, one of same-requires: refl)

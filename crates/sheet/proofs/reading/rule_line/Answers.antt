@@ -18,5 +18,3 @@ pub returns : goal.returns
 returns c =
     let u = c.up_to-rule.ensures.0 in
     rw u (rule_is _ _ (sym c.same.ensures ∙ c.if-not-same.false) (omega (arith, u)))
-
--- TO DO anonymous, one of same-requires: refl)
