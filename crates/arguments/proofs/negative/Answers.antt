@@ -1,5 +1,5 @@
 -- In each arm the kind is that one. Assumes nothing.
-use Rattle.std.proofs.Common.{refl, rules}
+use Rattle.std.proofs.Common.{refl}
 use Rattle.arguments.specs.Readings.{negative}
 use Rattle.arguments.proofs.negative.Goals as goal
 
