@@ -1,5 +1,4 @@
 -- In each arm it is that case. Assumes nothing.
-use borrow.Author.Rules.{rules}
 use Rattle.report.proofs.image_start.Goals as goal
 
 pub returns-in-FullRange : goal.returns-in-FullRange
