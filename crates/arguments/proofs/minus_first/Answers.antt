@@ -1,5 +1,4 @@
 -- Without a byte there is no minus. Assumes nothing.
-use Rattle.std.proofs.Common.{rules}
 use Rattle.arguments.proofs.Readings.{no_byte}
 use Rattle.arguments.proofs.minus_first.Goals as goal
 

@@ -1,6 +1,6 @@
 -- At each return the tests that led there say which case holds. Assumes nothing.
 use Rattle.std.proofs.Common.{◌<◌, ◌≤◌, sym, ◌∙◌, arith, rules}
-use borrow.Author.Tests.{not-true, not-false}
+use Rattle.arguments.specs.Kinds.{most_arguments}
 use Rattle.arguments.proofs.Said.{most_ends, says_nothing, count_none, count_many, count_odd, count_good}
 use Rattle.arguments.proofs.put_count.Goals as goal
 

@@ -16,8 +16,8 @@ put_filled-requires-in-Ends c = none_room c.args.out.now c.requires Ends
 
 pub returns-in-Cells : goal.returns-in-Cells
 unfolding none_words
-returns-in-Cells c = rw c.enum_told-1.given.1 (page_says c.put_filled.ensures)
+returns-in-Cells c = rw c.in-Cells.is (page_says c.put_filled.ensures)
 
 pub returns-in-Ends : goal.returns-in-Ends
 unfolding none_words
-returns-in-Ends c = rw c.enum_told-in-Ends-1.given.1 (page_says c.put_filled-in-Ends.ensures)
+returns-in-Ends c = rw c.in-Ends.is (page_says c.put_filled-in-Ends.ensures)

@@ -1,24 +1,16 @@
 -- Each arm is a case of the definition, and what was matched says which. Assumes nothing.
-use Rattle.std.proofs.Common.{◌≡◌, sym, ◌∙◌, rules}
-use Rattle.text.specs.declared.Numeral.{Numeral}
-use Rattle.text.specs.Decimal.{numeral}
+use Rattle.std.proofs.Common.{sym, ◌∙◌, rules}
 use Rattle.arguments.specs.Readings.{upwards}
 use Rattle.arguments.proofs.upwards.Goals as goal
 
--- what number the word is, by the answer that was matched
-is : (c : tie.After-number-of) {x : Numeral} → c.number_of.result ≡ x → numeral (start_of c).args.largest (start_of c).args.word.now ≡ x
-is c e = sym c.number_of.ensures ∙ e
-
 pub returns-in-Number : goal.returns-in-Number
 unfolding upwards
-returns-in-Number c = rw (is c c.n-1.given.1)
+returns-in-Number c = rw (sym c.number_of.ensures ∙ c.in-Number.is)
 
 pub returns-in-TooLarge : goal.returns-in-TooLarge
 unfolding upwards
-returns-in-TooLarge c = rw (is c c.enum_told-1.given.1)
+returns-in-TooLarge c = rw (sym c.number_of.ensures ∙ c.in-TooLarge.is)
 
 pub returns-in-NoNumber : goal.returns-in-NoNumber
 unfolding upwards
-returns-in-NoNumber c = rw (is c c.enum_told-in-NoNumber-1.given.1)
-
--- TO DO helper is : (c : tie.After-number-of) {x : Numeral} → c.number_of.result ≡ x → numeral (start_of c).args.largest (start_of c).args.word.now ≡ x
+returns-in-NoNumber c = rw (sym c.number_of.ensures ∙ c.in-NoNumber.is)

@@ -1,5 +1,4 @@
 -- The test is the definition's. Assumes nothing.
-use Rattle.std.proofs.Common.{rules}
 use Rattle.arguments.specs.Words.{whole_cells}
 use Rattle.arguments.proofs.whole_cells.Goals as goal
 

@@ -26,7 +26,7 @@ put_other-next-requires c =
     let room : Room c.loop-k.out c.loop-k.next ((let a = c.args in other_text a.image.now a.table.now a.guards.now a.area.now c.loop-k.k) ++ (let a = c.args in guarded_text a.image.now a.opening.now a.guards.now a.area.now c.loop-k.k)) =
         rw (← both) (text_room _ (omega arith) c.loop-k.invariant.2 c.requires.1) in
     let p = c.requires.0 in
-    (measured_lies _ _ _ p.decreases _ (omega arith), p.cells_some, room_first _ _ room)
+    (measured_lies _ _ _ p.measured _ (omega arith), p.cells_some, room_first _ _ room)
 
 pub put_guarded-next-requires : goal.put_guarded-next-requires
 unfolding reasons_text
@@ -36,7 +36,7 @@ put_guarded-next-requires c =
     let room : Room c.loop-k.out c.loop-k.next ((let a = c.args in other_text a.image.now a.table.now a.guards.now a.area.now c.loop-k.k) ++ (let a = c.args in guarded_text a.image.now a.opening.now a.guards.now a.area.now c.loop-k.k)) =
         rw (← both) (text_room _ (omega arith) c.loop-k.invariant.2 c.requires.1) in
     let p = c.requires.0 in
-    (record { accepted = p.accepted; within = omega arith; pairs = p.pairs }, rw p.same_cells (measured_lies _ _ _ p.decreases _ (omega arith)), room_then _ _ room c.put_other-next.ensures)
+    (record { accepted = p.accepted; within = omega arith; pairs = p.pairs }, rw p.same_cells (measured_lies _ _ _ p.measured _ (omega arith)), room_then _ _ room c.put_other-next.ensures)
 
 pub loop-k-preserved : goal.loop-k-preserved
 unfolding reasons_text

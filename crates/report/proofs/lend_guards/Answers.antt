@@ -10,12 +10,12 @@ use Rattle.report.proofs.lend_guards.Goals as goal
 
 pub read_guards-requires : goal.read_guards-requires
 read_guards-requires c =
-    (subst (λ (x : Guards). image_start x (length c.args.table.now) ≤ length c.args.input.now) c.enum_told-in-FromInput-1.given.1 c.requires.0, c.requires.2)
+    (subst (λ (x : Guards). image_start x (length c.args.table.now) ≤ length c.args.input.now) c.in-FromInput.is c.requires.0, c.requires.2)
 
 pub returns-in-FullRange : goal.returns-in-FullRange
 returns-in-FullRange c =
-    rw c.enum_told-1.given.1
+    rw c.in-FullRange.is
     (lends_full c.args.input.now c.args.table.now c.args.guards.now c.requires.2 c.full_range.ensures)
 
 pub returns-in-FromInput : goal.returns-in-FromInput
-returns-in-FromInput c = rw c.enum_told-in-FromInput-1.given.1 c.read_guards.ensures
+returns-in-FromInput c = rw c.in-FromInput.is c.read_guards.ensures

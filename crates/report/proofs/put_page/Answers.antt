@@ -8,13 +8,13 @@ use Rattle.report.specs.Batch.{page_most}
 use Rattle.report.proofs.put_page.Goals as goal
 
 pub put_listing-requires : goal.put_listing-requires
-put_listing-requires c = (c.requires.0.measured, subst (λ (x : Page). page_most x ≤ length c.args.out.now) c.enum_told-1.given.1 c.requires.1)
+put_listing-requires c = (c.requires.0.measured, subst (λ (x : Page). page_most x ≤ length c.args.out.now) c.in-Results.is c.requires.1)
 
 pub put_reasons-requires : goal.put_reasons-requires
-put_reasons-requires c = (c.requires.0, subst (λ (x : Page). page_most x ≤ length c.args.out.now) c.enum_told-in-Reasons-1.given.1 c.requires.1)
+put_reasons-requires c = (c.requires.0, subst (λ (x : Page). page_most x ≤ length c.args.out.now) c.in-Reasons.is c.requires.1)
 
 pub returns-in-Results : goal.returns-in-Results
-returns-in-Results c = rw c.enum_told-1.given.1 c.put_listing.ensures
+returns-in-Results c = rw c.in-Results.is c.put_listing.ensures
 
 pub returns-in-Reasons : goal.returns-in-Reasons
-returns-in-Reasons c = rw c.enum_told-in-Reasons-1.given.1 c.put_reasons.ensures
+returns-in-Reasons c = rw c.in-Reasons.is c.put_reasons.ensures

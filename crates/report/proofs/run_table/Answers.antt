@@ -1,24 +1,18 @@
 -- The table that is read is the input's, the guards are those that are lent for it, and the batch is run on both. Assumes nothing.
-use mathlib.Core.Path.{◌≡◌, ap, ◌∙◌}
-use mathlib.Core.List.{List}
-use Prim.Native.Nat.{ℕ}
-use native.Mathlib.Omega.{arith}
-use lib.ListN.{length}
-use borrow.Author.Rules.{rules}
+use Rattle.std.proofs.Common.{◌≡◌, ℕ, List, length, ap, ◌∙◌, arith, rules}
 use Rattle.base.proofs.Tables.{tabulate_length}
 use Rattle.report.proofs.Batches.{on_table}
 use Rattle.report.proofs.run_table.Goals as goal
 
 pub lend_guards-requires : goal.lend_guards-requires
 lend_guards-requires c =
-    let as_many : length c.read_cells.new.1.0 ≡ length c.args.table.now =
+    let as_many : length c.read_cells.new.table ≡ length c.args.table.now =
         ap (λ (x : List ℕ). length x) c.read_cells.ensures ∙ tabulate_length _ _ in
-    let l = as_many in
-    rw l (c.requires.1, c.requires.2, c.requires.3)
+    rw as_many (c.requires.1, c.requires.2, c.requires.3)
 
 pub run_on-requires : goal.run_on-requires
 run_on-requires c =
-    let as_many : length c.read_cells.new.1.0 ≡ length c.args.table.now =
+    let as_many : length c.read_cells.new.table ≡ length c.args.table.now =
         ap (λ (x : List ℕ). length x) c.read_cells.ensures ∙ tabulate_length _ _ in
     let fits = c.requires.4 in
     record { words_are = rw as_many fits.words_are; lie = omega (arith, fits.lie) }
