@@ -1,11 +1,11 @@
 -- Each arm does what its row of the table asks; `Named` says that the bytes name registers where the row needs them. Assumes nothing.
-use Rattle.std.proofs.Common.{◌≡◌, ℕ, ◌≤◌, ap, zero-le, arith, rules}
+use Rattle.std.proofs.Common.{◌≡◌, ℕ, ◌≤◌, ap, arith}
 use lib.ListN.{get_or-eq_default}
 use Rattle.machine.specs.declared.Machine.{Machine}
 use Rattle.machine.specs.Asks.{ask_of, op_end, operations}
 use Rattle.machine.specs.Runs.{perform}
 use Rattle.machine.specs.declared.Run.TheVariants.{Finished}
-use Rattle.machine.proofs.Turns.{did_move, did_halt, did_as, past}
+use Rattle.machine.proofs.Turns.{did_move, did_halt, did_as}
 use Rattle.machine.proofs.Machine.step.Goals as goal
 
 -- what is asked, once the operation is known
