@@ -1,7 +1,7 @@
 -- The checks before come first; what they have shown lets the words be looked at. Assumes nothing.
 use mathlib.Core.Path.{◌≡◌, refl, sym, ◌∙◌}
 use Rattle.image.specs.Image.{count_of}
-use Rattle.image.proofs.Refusing.{refuses, accepts, first_refuses, first_passes, number_of}
+use Rattle.image.proofs.Refusing.{fails, goes_on, first_refuses, first_passes, number_of}
 use Rattle.area.specs.Checks.{open_refusal, call_refusal, words_good}
 use lib.ListN.{length}
 use Rattle.area.proofs.Checks.{room_measured}
@@ -23,11 +23,11 @@ unfolding call_refusal
 returns-then-not-words_good c =
     let looked : (let a = c.args in c.words_good.result ≡ words_good (length a.table.now) (count_of a.image.now) a.area.now) =
         rw (← c.count.ensures.0) c.words_good.ensures in
-    first_passes c.open_refusal-opening.ensures c.if-opening-ne0.left (refuses _ looked c.if-not-words_good.true)
+    first_passes c.open_refusal-opening.ensures c.if-opening-ne0.false (fails _ (sym looked ∙ c.if-not-words_good.true))
 
 pub returns : goal.returns
 unfolding call_refusal
 returns c =
     let looked : (let a = c.args in c.words_good.result ≡ words_good (length a.table.now) (count_of a.image.now) a.area.now) =
         rw (← c.count.ensures.0) c.words_good.ensures in
-    first_passes c.open_refusal-opening.ensures c.if-opening-ne0.left (accepts _ looked c.if-not-words_good.false refl)
+    first_passes c.open_refusal-opening.ensures c.if-opening-ne0.false (goes_on _ (sym looked ∙ c.if-not-words_good.false) refl)

@@ -1,7 +1,7 @@
 -- The checks before come first; what they have shown lets the states be looked at. Assumes nothing.
 use mathlib.Core.Path.{◌≡◌, refl, sym, ◌∙◌}
 use Rattle.image.specs.Image.{count_of}
-use Rattle.image.proofs.Refusing.{refuses, accepts, first_refuses, first_passes, number_of}
+use Rattle.image.proofs.Refusing.{fails, goes_on, first_refuses, first_passes, number_of}
 use Rattle.area.specs.Checks.{call_refusal, ended_refusal, all_ended}
 use lib.ListN.{length}
 use Rattle.area.proofs.Checks.{measured, checked}
@@ -23,11 +23,11 @@ unfolding ended_refusal
 returns-then-not-states_from c =
     let looked : (let a = c.args in c.states_from.result ≡ all_ended (length a.table.now) (count_of a.image.now) a.area.now) =
         rw (← c.count.ensures.0) c.states_from.ensures in
-    first_passes c.call_refusal-refused.ensures c.if-refused-ne0.left (refuses _ looked c.if-not-states_from.true)
+    first_passes c.call_refusal-refused.ensures c.if-refused-ne0.false (fails _ (sym looked ∙ c.if-not-states_from.true))
 
 pub returns : goal.returns
 unfolding ended_refusal
 returns c =
     let looked : (let a = c.args in c.states_from.result ≡ all_ended (length a.table.now) (count_of a.image.now) a.area.now) =
         rw (← c.count.ensures.0) c.states_from.ensures in
-    first_passes c.call_refusal-refused.ensures c.if-refused-ne0.left (accepts _ looked c.if-not-states_from.false refl)
+    first_passes c.call_refusal-refused.ensures c.if-refused-ne0.false (goes_on _ (sym looked ∙ c.if-not-states_from.false) refl)

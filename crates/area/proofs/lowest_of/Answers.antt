@@ -28,5 +28,3 @@ returns c =
     let l = c.loop-i in
     let e : l.i ≡ c.args.count = omega arith in
     rw e at l.invariant.1
-
--- TO DO answer cast-cell (overflow-cast-cell) has no goal now

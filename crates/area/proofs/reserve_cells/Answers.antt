@@ -51,6 +51,3 @@ loop-i-preserved c = reserving_next _ _ _ _ _ c.requires.0 _ _ c.loop-i.invarian
 
 pub returns : goal.returns
 returns c = reserving_end _ _ _ _ _ c.requires.0 _ _ c.loop-i.invariant c.loop-i-test.false
-
--- TO DO answer cast-c (overflow-cast-c) has no goal now
--- TO DO answer same_length (same-length) has no goal now

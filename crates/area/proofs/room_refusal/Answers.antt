@@ -5,10 +5,10 @@ use Prim.Native.Nat.{◌≤◌}
 use native.Mathlib.Omega.{arith}
 use lib.ListN.{length}
 use lib.Dec.{leb}
-use borrow.Author.Tests.{not-false, leb-true, eq-eqb, ne_eqb}
+use borrow.Author.Tests.{leb-true, eq-eqb, ne_eqb}
 use Rattle.base.proofs.Bools.{and_right}
 use Rattle.image.specs.Limits.{max_cells}
-use Rattle.image.proofs.Refusing.{fails, goes_on, refuses}
+use Rattle.image.proofs.Refusing.{fails, goes_on}
 use Rattle.guard.specs.Guards.{pairs_for}
 use Rattle.area.specs.Checks.{table_good, size_is, room_refusal}
 use borrow.Author.Rules.{rules}
@@ -16,7 +16,7 @@ use Rattle.area.proofs.room_refusal.Goals as goal
 
 pub returns-then-not-table_good : goal.returns-then-not-table_good
 unfolding room_refusal
-returns-then-not-table_good c = refuses _ c.table_good.ensures c.if-not-table_good.true
+returns-then-not-table_good c = fails _ (sym c.table_good.ensures ∙ c.if-not-table_good.true)
 
 pub pairs_for-requires : goal.pairs_for-requires
 unfolding table_good
@@ -32,7 +32,7 @@ unfolding room_refusal
 returns-then-not-pairs_for c =
     let good : table_good c.args.table.now ≡ true =
         sym c.table_good.ensures ∙ c.if-not-table_good.false in
-    goes_on _ good (refuses _ c.pairs_for.ensures c.if-not-pairs_for.true)
+    goes_on _ good (fails _ (sym c.pairs_for.ensures ∙ c.if-not-pairs_for.true))
 
 pub slot_start-requires : goal.slot_start-requires
 unfolding table_good

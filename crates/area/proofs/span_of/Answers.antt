@@ -26,5 +26,3 @@ bounds-area-counted c =
 
 pub returns : goal.returns
 returns c = rw (c.slot_start-start.ensures, c.first_word.ensures, c.count_word.ensures)
-
--- TO DO answer cast-count (overflow-cast-count) has no goal now

@@ -33,5 +33,3 @@ pub returns : goal.returns
 returns c =
     let l = c.loop-i in
     storing_end _ _ _ _ _ c.requires l.i l.table l.invariant.2 c.loop-i-test.false
-
--- TO DO answer cast-c (overflow-cast-c) has no goal now

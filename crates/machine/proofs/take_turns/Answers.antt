@@ -1,9 +1,8 @@
 -- The loop's invariant, `Going`: what is left of the run ends as the whole run does. The measure is what is left of the instructions, since every turn
 -- goes forward. Assumes nothing.
-use Rattle.std.proofs.Common.{◌≡◌, ◌-◌, length, sym, refl, ap, ◌∙◌, arith, rules}
-use Rattle.image.specs.Instruction.{instructions_of}
+use Rattle.std.proofs.Common.{refl, arith}
 use Rattle.guard.specs.Guards.{admits}
-use Rattle.machine.proofs.Going.{Going, going_start, going_ready, going_words, going_end, going_stop, going_next, going_forward}
+use Rattle.machine.proofs.Going.{going_start, going_ready, going_end, going_stop, going_next, going_forward}
 use Rattle.machine.proofs.Named.{instruction_named}
 use Rattle.machine.proofs.take_turns.Goals as goal
 
@@ -20,22 +19,19 @@ step-turned-requires c =
     )
 
 pub returns-in-Stop : goal.returns-in-Stop
-returns-in-Stop c = going_stop c.requires.runnable c.loop-machine.inv.1 _ _ c.loop-machine-test.taken c.step-turned.ensures _ c.turn-1.given.1
+returns-in-Stop c = going_stop c.requires.runnable c.loop-machine.invariant.1 _ _ c.loop-machine-test.true c.step-turned.ensures _ c.in-Stop.is
 
 pub loop-machine-smaller : goal.loop-machine-smaller
 loop-machine-smaller c =
     omega (
       arith,
-      c.loop-machine-test.taken,
-      going_forward c.requires.runnable c.loop-machine.inv.1 _ _ c.loop-machine-test.taken c.step-turned.ensures c.enum_told-1.given.1,
+      c.loop-machine-test.true,
+      going_forward c.requires.runnable c.loop-machine.invariant.1 _ _ c.loop-machine-test.true c.step-turned.ensures c.in-Next.is,
     )
 
 pub loop-machine-preserved : goal.loop-machine-preserved
 loop-machine-preserved c =
-    (refl, going_next c.requires.runnable c.loop-machine.inv.1 _ _ c.loop-machine-test.taken c.step-turned.ensures c.enum_told-1.given.1)
+    (refl, going_next c.requires.runnable c.loop-machine.invariant.1 _ _ c.loop-machine-test.true c.step-turned.ensures c.in-Next.is)
 
 pub returns : goal.returns
 returns c = going_end c.requires.runnable c.loop-machine.invariant.1 c.loop-machine-test.false
-
--- TO DO answer same_length (same-length) has no goal now
--- TO DO answer same-length-2 (same-length-2) has no goal now
