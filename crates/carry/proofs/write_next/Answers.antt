@@ -30,7 +30,7 @@ put_ends-middle-requires c =
         from_image c.requires.0 c.all-all.ensures c.rule.ensures in
     let count-is : c.args.programs ≡ length ((let a = c.args in picked (has_bit a.mask) a.image.now a.n) ++ (let a = c.args in picked (has_bit c.all-all.result) a.fresh.now a.m)) =
         from_count c.requires.0 c.all-all.ensures in
-    let headed : (Headed c.rule.result ((let a = c.args in picked (has_bit a.mask) a.image.now a.n) ++ (let a = c.args in picked (has_bit c.all-all.result) a.fresh.now a.m)) c.args.out.now c.put_header-to.last.0 (record { to = c.put_header-to.result; end = c.head_bytes.result })) =
+    let headed : (Headed c.rule.result ((let a = c.args in picked (has_bit a.mask) a.image.now a.n) ++ (let a = c.args in picked (has_bit c.all-all.result) a.fresh.now a.m)) c.args.out.now c.put_header-to.new.out (record { to = c.put_header-to.result; end = c.head_bytes.result })) =
         record {
       wrote = rw (← count-is) c.put_header-to.ensures;
       end_is = c.head_bytes.ensures ∙ ap head_bytes count-is;
@@ -47,7 +47,7 @@ put_ends-done-requires c =
         from_count c.requires.0 c.all-all.ensures in
     let fresh-source : (let a = c.args in Source a.fresh.now a.m c.all-all.result) =
         all_source c.requires.0 c.all-all.ensures in
-    let headed : (Headed c.rule.result ((let a = c.args in picked (has_bit a.mask) a.image.now a.n) ++ (let a = c.args in picked (has_bit c.all-all.result) a.fresh.now a.m)) c.args.out.now c.put_header-to.last.0 (record { to = c.put_header-to.result; end = c.head_bytes.result })) =
+    let headed : (Headed c.rule.result ((let a = c.args in picked (has_bit a.mask) a.image.now a.n) ++ (let a = c.args in picked (has_bit c.all-all.result) a.fresh.now a.m)) c.args.out.now c.put_header-to.new.out (record { to = c.put_header-to.result; end = c.head_bytes.result })) =
         record {
       wrote = rw (← count-is) c.put_header-to.ensures;
       end_is = c.head_bytes.ensures ∙ ap head_bytes count-is;
@@ -62,14 +62,14 @@ put_bodies-at-requires c =
         from_image c.requires.0 c.all-all.ensures c.rule.ensures in
     let count-is : c.args.programs ≡ length ((let a = c.args in picked (has_bit a.mask) a.image.now a.n) ++ (let a = c.args in picked (has_bit c.all-all.result) a.fresh.now a.m)) =
         from_count c.requires.0 c.all-all.ensures in
-    let headed : (Headed c.rule.result ((let a = c.args in picked (has_bit a.mask) a.image.now a.n) ++ (let a = c.args in picked (has_bit c.all-all.result) a.fresh.now a.m)) c.args.out.now c.put_header-to.last.0 (record { to = c.put_header-to.result; end = c.head_bytes.result })) =
+    let headed : (Headed c.rule.result ((let a = c.args in picked (has_bit a.mask) a.image.now a.n) ++ (let a = c.args in picked (has_bit c.all-all.result) a.fresh.now a.m)) c.args.out.now c.put_header-to.new.out (record { to = c.put_header-to.result; end = c.head_bytes.result })) =
         record {
       wrote = rw (← count-is) c.put_header-to.ensures;
       end_is = c.head_bytes.ensures ∙ ap head_bytes count-is;
       fits = rw image_is c.requires.1;
       small = rw image_is (from_small c.requires.0 c.all-all.ensures);
     } in
-    let ended : (Ended c.put_header-to.last.0 (record { to = c.put_header-to.result; end = c.head_bytes.result }) ((let a = c.args in picked (has_bit a.mask) a.image.now a.n) ++ (let a = c.args in picked (has_bit c.all-all.result) a.fresh.now a.m)) c.put_ends-done.new.0 c.put_ends-done.result) =
+    let ended : (Ended c.put_header-to.new.out (record { to = c.put_header-to.result; end = c.head_bytes.result }) ((let a = c.args in picked (has_bit a.mask) a.image.now a.n) ++ (let a = c.args in picked (has_bit c.all-all.result) a.fresh.now a.m)) c.put_ends-done.new.out c.put_ends-done.result) =
         ended_both (let a = c.args in picked (has_bit a.mask) a.image.now a.n) (let a = c.args in picked (has_bit c.all-all.result) a.fresh.now a.m) (ends_room headed) c.put_ends-middle.ensures c.put_ends-done.ensures in
     (c.requires.0.old, first_fits (let a = c.args in picked (has_bit a.mask) a.image.now a.n) (let a = c.args in picked (has_bit c.all-all.result) a.fresh.now a.m) (bytes_room headed ended))
 
@@ -81,14 +81,14 @@ put_bodies-requires c =
         from_count c.requires.0 c.all-all.ensures in
     let fresh-source : (let a = c.args in Source a.fresh.now a.m c.all-all.result) =
         all_source c.requires.0 c.all-all.ensures in
-    let headed : (Headed c.rule.result ((let a = c.args in picked (has_bit a.mask) a.image.now a.n) ++ (let a = c.args in picked (has_bit c.all-all.result) a.fresh.now a.m)) c.args.out.now c.put_header-to.last.0 (record { to = c.put_header-to.result; end = c.head_bytes.result })) =
+    let headed : (Headed c.rule.result ((let a = c.args in picked (has_bit a.mask) a.image.now a.n) ++ (let a = c.args in picked (has_bit c.all-all.result) a.fresh.now a.m)) c.args.out.now c.put_header-to.new.out (record { to = c.put_header-to.result; end = c.head_bytes.result })) =
         record {
       wrote = rw (← count-is) c.put_header-to.ensures;
       end_is = c.head_bytes.ensures ∙ ap head_bytes count-is;
       fits = rw image_is c.requires.1;
       small = rw image_is (from_small c.requires.0 c.all-all.ensures);
     } in
-    let ended : (Ended c.put_header-to.last.0 (record { to = c.put_header-to.result; end = c.head_bytes.result }) ((let a = c.args in picked (has_bit a.mask) a.image.now a.n) ++ (let a = c.args in picked (has_bit c.all-all.result) a.fresh.now a.m)) c.put_ends-done.new.0 c.put_ends-done.result) =
+    let ended : (Ended c.put_header-to.new.out (record { to = c.put_header-to.result; end = c.head_bytes.result }) ((let a = c.args in picked (has_bit a.mask) a.image.now a.n) ++ (let a = c.args in picked (has_bit c.all-all.result) a.fresh.now a.m)) c.put_ends-done.new.out c.put_ends-done.result) =
         ended_both (let a = c.args in picked (has_bit a.mask) a.image.now a.n) (let a = c.args in picked (has_bit c.all-all.result) a.fresh.now a.m) (ends_room headed) c.put_ends-middle.ensures c.put_ends-done.ensures in
     (fresh-source, second_fits (let a = c.args in picked (has_bit a.mask) a.image.now a.n) (let a = c.args in picked (has_bit c.all-all.result) a.fresh.now a.m) (bytes_room headed ended) c.put_bodies-at.ensures)
 
@@ -98,14 +98,14 @@ returns c =
         from_image c.requires.0 c.all-all.ensures c.rule.ensures in
     let count-is : c.args.programs ≡ length ((let a = c.args in picked (has_bit a.mask) a.image.now a.n) ++ (let a = c.args in picked (has_bit c.all-all.result) a.fresh.now a.m)) =
         from_count c.requires.0 c.all-all.ensures in
-    let headed : (Headed c.rule.result ((let a = c.args in picked (has_bit a.mask) a.image.now a.n) ++ (let a = c.args in picked (has_bit c.all-all.result) a.fresh.now a.m)) c.args.out.now c.put_header-to.last.0 (record { to = c.put_header-to.result; end = c.head_bytes.result })) =
+    let headed : (Headed c.rule.result ((let a = c.args in picked (has_bit a.mask) a.image.now a.n) ++ (let a = c.args in picked (has_bit c.all-all.result) a.fresh.now a.m)) c.args.out.now c.put_header-to.new.out (record { to = c.put_header-to.result; end = c.head_bytes.result })) =
         record {
       wrote = rw (← count-is) c.put_header-to.ensures;
       end_is = c.head_bytes.ensures ∙ ap head_bytes count-is;
       fits = rw image_is c.requires.1;
       small = rw image_is (from_small c.requires.0 c.all-all.ensures);
     } in
-    let ended : (Ended c.put_header-to.last.0 (record { to = c.put_header-to.result; end = c.head_bytes.result }) ((let a = c.args in picked (has_bit a.mask) a.image.now a.n) ++ (let a = c.args in picked (has_bit c.all-all.result) a.fresh.now a.m)) c.put_ends-done.new.0 c.put_ends-done.result) =
+    let ended : (Ended c.put_header-to.new.out (record { to = c.put_header-to.result; end = c.head_bytes.result }) ((let a = c.args in picked (has_bit a.mask) a.image.now a.n) ++ (let a = c.args in picked (has_bit c.all-all.result) a.fresh.now a.m)) c.put_ends-done.new.out c.put_ends-done.result) =
         ended_both (let a = c.args in picked (has_bit a.mask) a.image.now a.n) (let a = c.args in picked (has_bit c.all-all.result) a.fresh.now a.m) (ends_room headed) c.put_ends-middle.ensures c.put_ends-done.ensures in
     rw (← image_is)
     (image_wrote headed ended (wrote_both (let a = c.args in picked (has_bit a.mask) a.image.now a.n) (let a = c.args in picked (has_bit c.all-all.result) a.fresh.now a.m) (bytes_room headed ended) c.put_bodies-at.ensures c.put_bodies.ensures))

@@ -1,5 +1,6 @@
 -- Checks 1 to 9 come first; what they have shown lets the program's state be looked at. Assumes nothing.
 use mathlib.Core.Path.{◌≡◌, refl, sym, ap, ◌∙◌}
+use mathlib.Core.Bool.{not}
 use lib.ListN.{length}
 use Rattle.image.proofs.Refusing.{refuses, accepts, first_refuses, first_passes, number_of}
 use Rattle.slot.specs.declared.Group.TheVariants.{Carried}
@@ -25,11 +26,11 @@ unfolding carried_refusal in_group
 returns-then-not-is_in c =
     let looked : (let a = c.args in c.is_in.result ≡ in_group Carried (length a.table.now) a.area.now a.number) =
         c.is_in.ensures ∙ ap (is_in Carried) c.state-state.ensures in
-    first_passes c.ask_refusal-refused.ensures c.if-refused-ne0.false (refuses _ looked c.if-not-is_in.true)
+    first_passes c.ask_refusal-refused.ensures c.if-refused-ne0.false (refuses _ looked (ap not c.if-not-is_in.true))
 
 pub returns : goal.returns
 unfolding carried_refusal in_group
 returns c =
     let looked : (let a = c.args in c.is_in.result ≡ in_group Carried (length a.table.now) a.area.now a.number) =
         c.is_in.ensures ∙ ap (is_in Carried) c.state-state.ensures in
-    first_passes c.ask_refusal-refused.ensures c.if-refused-ne0.false (accepts _ looked c.if-not-is_in.false refl)
+    first_passes c.ask_refusal-refused.ensures c.if-refused-ne0.false (accepts _ looked (ap not c.if-not-is_in.false) refl)
