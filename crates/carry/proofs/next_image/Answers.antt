@@ -11,8 +11,6 @@ use Rattle.carry.proofs.Checks.{lent_shows, next_refused}
 use Rattle.carry.proofs.Chosen.{Chosen, chosen_sources, chosen_size, chosen_fits, chosen_done}
 use Rattle.carry.proofs.next_image.Goals as goal
 
-}
-
 pub returns-then-refused-ne0 : goal.returns-then-refused-ne0
 unfolding next_refusal
 returns-then-refused-ne0 c =
@@ -38,11 +36,12 @@ size_refusal-large-requires c =
         number_of (sym c.lent_refusal-refused.ensures) ∙ c.if-refused-ne0.false in
     let chosen : (let a = c.args in let m = c.count-m.result in Chosen a.image.now a.table.now a.guards.now a.area.now a.fresh.now c.count-n.result m c.members-mask.result (c.count.result + m)) =
         record {
-  lent = lent;
-  n_is = c.count-n.ensures.0;
-  m_is = c.count-m.ensures.0;
-  mask_is = c.members-mask.ensures;
-  counted = omega (arith, c.count.ensures.0); in
+          lent = lent;
+          n_is = c.count-n.ensures.0;
+          m_is = c.count-m.ensures.0;
+          mask_is = c.members-mask.ensures;
+          counted = omega (arith, c.count.ensures.0);
+        } in
     chosen_sources chosen
 
 pub returns-then-large-ne0 : goal.returns-then-large-ne0
@@ -51,11 +50,12 @@ returns-then-large-ne0 c =
         number_of (sym c.lent_refusal-refused.ensures) ∙ c.if-refused-ne0.false in
     let chosen : (let a = c.args in let m = c.count-m.result in Chosen a.image.now a.table.now a.guards.now a.area.now a.fresh.now c.count-n.result m c.members-mask.result (c.count.result + m)) =
         record {
-  lent = lent;
-  n_is = c.count-n.ensures.0;
-  m_is = c.count-m.ensures.0;
-  mask_is = c.members-mask.ensures;
-  counted = omega (arith, c.count.ensures.0); in
+          lent = lent;
+          n_is = c.count-n.ensures.0;
+          m_is = c.count-m.ensures.0;
+          mask_is = c.members-mask.ensures;
+          counted = omega (arith, c.count.ensures.0);
+        } in
     let a = c.args in
     next_refused a.image.now a.table.now a.guards.now a.area.now a.fresh.now a.out.now _
     (chosen_size chosen a.out.now c.size_refusal-large.ensures) c.if-large-ne0.true
@@ -66,11 +66,12 @@ write_next-requires c =
         number_of (sym c.lent_refusal-refused.ensures) ∙ c.if-refused-ne0.false in
     let chosen : (let a = c.args in let m = c.count-m.result in Chosen a.image.now a.table.now a.guards.now a.area.now a.fresh.now c.count-n.result m c.members-mask.result (c.count.result + m)) =
         record {
-  lent = lent;
-  n_is = c.count-n.ensures.0;
-  m_is = c.count-m.ensures.0;
-  mask_is = c.members-mask.ensures;
-  counted = omega (arith, c.count.ensures.0); in
+          lent = lent;
+          n_is = c.count-n.ensures.0;
+          m_is = c.count-m.ensures.0;
+          mask_is = c.members-mask.ensures;
+          counted = omega (arith, c.count.ensures.0);
+        } in
     let k = chosen in
     (chosen_sources k, chosen_fits k _ c.size_refusal-large.ensures c.if-large-ne0.false)
 
@@ -80,9 +81,10 @@ returns c =
         number_of (sym c.lent_refusal-refused.ensures) ∙ c.if-refused-ne0.false in
     let chosen : (let a = c.args in let m = c.count-m.result in Chosen a.image.now a.table.now a.guards.now a.area.now a.fresh.now c.count-n.result m c.members-mask.result (c.count.result + m)) =
         record {
-  lent = lent;
-  n_is = c.count-n.ensures.0;
-  m_is = c.count-m.ensures.0;
-  mask_is = c.members-mask.ensures;
-  counted = omega (arith, c.count.ensures.0); in
+          lent = lent;
+          n_is = c.count-n.ensures.0;
+          m_is = c.count-m.ensures.0;
+          mask_is = c.members-mask.ensures;
+          counted = omega (arith, c.count.ensures.0);
+        } in
     chosen_done chosen _ c.size_refusal-large.ensures c.if-large-ne0.false c.write_next.ensures

@@ -1,111 +1,112 @@
 -- Each writer begins where the one before it ended: the header, the ends of both sources, the bytes of both. Assumes nothing.
 use mathlib.Core.Path.{◌≡◌, ap, ◌∙◌}
+use mathlib.Core.Bool.{true}
 use mathlib.Core.List.{List, ◌++◌}
-use Prim.Native.Nat.{ℕ}
+use Prim.Native.Nat.{ℕ, ◌≤◌}
 use native.Mathlib.Omega.{arith}
 use lib.ListN.{length}
-use borrow.Author.Rules.{rules}
-use Rattle.base.specs.Masks.{has_bit}
-use Rattle.image.specs.Limits.{head_bytes}
-use Rattle.writer.specs.Joined.{image_of}
+use Rattle.base.specs.Masks.{has_bit, mask_of}
+use Rattle.text.specs.Writing.{Wrote, Room}
+use Rattle.image.specs.Limits.{head_bytes, min_bytes}
+use Rattle.image.specs.Image.{rule_byte}
+use Rattle.writer.specs.declared.Place.{Place}
+use Rattle.writer.specs.Joined.{joined, image_of}
 use Rattle.writer.specs.Picked.{picked}
-use Rattle.writer.specs.Writing.{Source, Ended}
+use Rattle.writer.specs.Writing.{header, Ended, EndRoom}
 use Rattle.writer.proofs.Programs.{length_image, first_room, second_room, ended_both, first_fits, second_fits, wrote_both}
 use Rattle.writer.proofs.Whole.{Headed, ends_room, bytes_room, image_wrote}
-use Rattle.carry.specs.Sources.{image_from}
+use Rattle.carry.specs.Sources.{Sources, image_from}
 use Rattle.carry.proofs.Sources.{all_source, from_image, from_count, from_small}
 use Rattle.carry.proofs.write_next.Goals as goal
 
+module _ {image fresh : List ℕ} {n mask m programs all rule : ℕ} (s : Sources image n mask fresh m programs) (all_is : all ≡ mask_of (λ k. true) m)
+    (rule_is : rule ≡ rule_byte fresh) where
+  -- the programs of both sources
+  abbrev old : List (List ℕ)
+  old = picked (has_bit mask) image n
+
+  abbrev new : List (List ℕ)
+  new = picked (has_bit all) fresh m
+
+  image_is : image_of rule (old ++ new) ≡ image_from image n mask fresh m
+  image_is = from_image s all_is rule_is
+
+  count_is : programs ≡ length (old ++ new)
+  count_is = from_count s all_is
+
+  header_fits : (out : List ℕ) → length (image_from image n mask fresh m) ≤ length out → min_bytes ≤ length out
+  header_fits out fits = omega (arith, ap length image_is, length_image rule (old ++ new))
+
+  module _ {out : List ℕ} (fits : length (image_from image n mask fresh m) ≤ length out) where
+    -- ---- what stands after the header, and after the ends
+
+    module _ {h : List ℕ} {to end : ℕ} (wrote : Wrote out 0 (header programs rule) h to) (end_is : end ≡ head_bytes programs) where
+      abbrev start : Place
+      start = record { to = to; end = end }
+
+      headed : Headed rule (old ++ new) out h start
+      headed =
+          record {
+            wrote = rw (← count_is) wrote;
+            end_is = end_is ∙ ap head_bytes count_is;
+            fits = rw image_is fits;
+            small = rw image_is (from_small s all_is);
+          }
+
+      old_ends : EndRoom h start old
+      old_ends = first_room old new (ends_room headed)
+
+      module _ {b : List ℕ} {middle : Place} (e : Ended h start old b middle) where
+        new_ends : EndRoom b middle new
+        new_ends = second_room old new (ends_room headed) e
+
+        module _ {d : List ℕ} {done : Place} (f : Ended b middle new d done) where
+          ended : Ended h start (old ++ new) d done
+          ended = ended_both old new (ends_room headed) e f
+
+          old_bytes : Room d done.to (joined old)
+          old_bytes = first_fits old new (bytes_room headed ended)
+
+          module _ {w : List ℕ} {at : ℕ} (x : Wrote d done.to (joined old) w at) where
+            new_bytes : Room w at (joined new)
+            new_bytes = second_fits old new (bytes_room headed ended) x
+
+            whole : {v : List ℕ} {r : ℕ} → Wrote w at (joined new) v r → Wrote out 0 (image_from image n mask fresh m) v r
+            whole y = rw (← image_is) (image_wrote headed ended (wrote_both old new (bytes_room headed ended) x y))
+
 -- ---- the needs
+
 pub put_header-to-requires : goal.put_header-to-requires
 put_header-to-requires c =
-    let image_is : (let a = c.args in image_of c.rule.result ((let a = c.args in picked (has_bit a.mask) a.image.now a.n) ++ (let a = c.args in picked (has_bit c.all-all.result) a.fresh.now a.m)) ≡ image_from a.image.now a.n a.mask a.fresh.now a.m) =
-        from_image c.requires.0 c.all-all.ensures c.rule.ensures in
     let p = c.requires in
-    (omega (arith, p.1, ap length image_is, length_image c.rule.result ((let a = c.args in picked (has_bit a.mask) a.image.now a.n) ++ (let a = c.args in picked (has_bit c.all-all.result) a.fresh.now a.m))), omega (arith, p.0.few))
+    (header_fits p.0 c.all-all.ensures c.rule.ensures _ p.1, omega (arith, p.0.few))
 
 pub put_ends-middle-requires : goal.put_ends-middle-requires
 put_ends-middle-requires c =
-    let image_is : (let a = c.args in image_of c.rule.result ((let a = c.args in picked (has_bit a.mask) a.image.now a.n) ++ (let a = c.args in picked (has_bit c.all-all.result) a.fresh.now a.m)) ≡ image_from a.image.now a.n a.mask a.fresh.now a.m) =
-        from_image c.requires.0 c.all-all.ensures c.rule.ensures in
-    let count-is : c.args.programs ≡ length ((let a = c.args in picked (has_bit a.mask) a.image.now a.n) ++ (let a = c.args in picked (has_bit c.all-all.result) a.fresh.now a.m)) =
-        from_count c.requires.0 c.all-all.ensures in
-    let headed : (Headed c.rule.result ((let a = c.args in picked (has_bit a.mask) a.image.now a.n) ++ (let a = c.args in picked (has_bit c.all-all.result) a.fresh.now a.m)) c.args.out.now c.put_header-to.last.0 (record { to = c.put_header-to.result; end = c.head_bytes.result })) =
-        record {
-      wrote = rw (← count-is) c.put_header-to.ensures;
-      end_is = c.head_bytes.ensures ∙ ap head_bytes count-is;
-      fits = rw image_is c.requires.1;
-      small = rw image_is (from_small c.requires.0 c.all-all.ensures);
-    } in
-    (c.requires.0.old, first_room (let a = c.args in picked (has_bit a.mask) a.image.now a.n) (let a = c.args in picked (has_bit c.all-all.result) a.fresh.now a.m) (ends_room headed))
+    let p = c.requires in
+    (p.0.old, old_ends p.0 c.all-all.ensures c.rule.ensures p.1 c.put_header-to.ensures c.head_bytes.ensures)
 
 pub put_ends-done-requires : goal.put_ends-done-requires
 put_ends-done-requires c =
-    let image_is : (let a = c.args in image_of c.rule.result ((let a = c.args in picked (has_bit a.mask) a.image.now a.n) ++ (let a = c.args in picked (has_bit c.all-all.result) a.fresh.now a.m)) ≡ image_from a.image.now a.n a.mask a.fresh.now a.m) =
-        from_image c.requires.0 c.all-all.ensures c.rule.ensures in
-    let count-is : c.args.programs ≡ length ((let a = c.args in picked (has_bit a.mask) a.image.now a.n) ++ (let a = c.args in picked (has_bit c.all-all.result) a.fresh.now a.m)) =
-        from_count c.requires.0 c.all-all.ensures in
-    let fresh-source : (let a = c.args in Source a.fresh.now a.m c.all-all.result) =
-        all_source c.requires.0 c.all-all.ensures in
-    let headed : (Headed c.rule.result ((let a = c.args in picked (has_bit a.mask) a.image.now a.n) ++ (let a = c.args in picked (has_bit c.all-all.result) a.fresh.now a.m)) c.args.out.now c.put_header-to.last.0 (record { to = c.put_header-to.result; end = c.head_bytes.result })) =
-        record {
-      wrote = rw (← count-is) c.put_header-to.ensures;
-      end_is = c.head_bytes.ensures ∙ ap head_bytes count-is;
-      fits = rw image_is c.requires.1;
-      small = rw image_is (from_small c.requires.0 c.all-all.ensures);
-    } in
-    (fresh-source, second_room (let a = c.args in picked (has_bit a.mask) a.image.now a.n) (let a = c.args in picked (has_bit c.all-all.result) a.fresh.now a.m) (ends_room headed) c.put_ends-middle.ensures)
+    let p = c.requires in
+    (all_source p.0 c.all-all.ensures, new_ends p.0 c.all-all.ensures c.rule.ensures p.1 c.put_header-to.ensures c.head_bytes.ensures c.put_ends-middle.ensures)
 
 pub put_bodies-at-requires : goal.put_bodies-at-requires
 put_bodies-at-requires c =
-    let image_is : (let a = c.args in image_of c.rule.result ((let a = c.args in picked (has_bit a.mask) a.image.now a.n) ++ (let a = c.args in picked (has_bit c.all-all.result) a.fresh.now a.m)) ≡ image_from a.image.now a.n a.mask a.fresh.now a.m) =
-        from_image c.requires.0 c.all-all.ensures c.rule.ensures in
-    let count-is : c.args.programs ≡ length ((let a = c.args in picked (has_bit a.mask) a.image.now a.n) ++ (let a = c.args in picked (has_bit c.all-all.result) a.fresh.now a.m)) =
-        from_count c.requires.0 c.all-all.ensures in
-    let headed : (Headed c.rule.result ((let a = c.args in picked (has_bit a.mask) a.image.now a.n) ++ (let a = c.args in picked (has_bit c.all-all.result) a.fresh.now a.m)) c.args.out.now c.put_header-to.last.0 (record { to = c.put_header-to.result; end = c.head_bytes.result })) =
-        record {
-      wrote = rw (← count-is) c.put_header-to.ensures;
-      end_is = c.head_bytes.ensures ∙ ap head_bytes count-is;
-      fits = rw image_is c.requires.1;
-      small = rw image_is (from_small c.requires.0 c.all-all.ensures);
-    } in
-    let ended : (Ended c.put_header-to.last.0 (record { to = c.put_header-to.result; end = c.head_bytes.result }) ((let a = c.args in picked (has_bit a.mask) a.image.now a.n) ++ (let a = c.args in picked (has_bit c.all-all.result) a.fresh.now a.m)) c.put_ends-done.new.0 c.put_ends-done.result) =
-        ended_both (let a = c.args in picked (has_bit a.mask) a.image.now a.n) (let a = c.args in picked (has_bit c.all-all.result) a.fresh.now a.m) (ends_room headed) c.put_ends-middle.ensures c.put_ends-done.ensures in
-    (c.requires.0.old, first_fits (let a = c.args in picked (has_bit a.mask) a.image.now a.n) (let a = c.args in picked (has_bit c.all-all.result) a.fresh.now a.m) (bytes_room headed ended))
+    let p = c.requires in
+    (p.0.old, old_bytes p.0 c.all-all.ensures c.rule.ensures p.1 c.put_header-to.ensures c.head_bytes.ensures c.put_ends-middle.ensures c.put_ends-done.ensures)
 
 pub put_bodies-requires : goal.put_bodies-requires
 put_bodies-requires c =
-    let image_is : (let a = c.args in image_of c.rule.result ((let a = c.args in picked (has_bit a.mask) a.image.now a.n) ++ (let a = c.args in picked (has_bit c.all-all.result) a.fresh.now a.m)) ≡ image_from a.image.now a.n a.mask a.fresh.now a.m) =
-        from_image c.requires.0 c.all-all.ensures c.rule.ensures in
-    let count-is : c.args.programs ≡ length ((let a = c.args in picked (has_bit a.mask) a.image.now a.n) ++ (let a = c.args in picked (has_bit c.all-all.result) a.fresh.now a.m)) =
-        from_count c.requires.0 c.all-all.ensures in
-    let fresh-source : (let a = c.args in Source a.fresh.now a.m c.all-all.result) =
-        all_source c.requires.0 c.all-all.ensures in
-    let headed : (Headed c.rule.result ((let a = c.args in picked (has_bit a.mask) a.image.now a.n) ++ (let a = c.args in picked (has_bit c.all-all.result) a.fresh.now a.m)) c.args.out.now c.put_header-to.last.0 (record { to = c.put_header-to.result; end = c.head_bytes.result })) =
-        record {
-      wrote = rw (← count-is) c.put_header-to.ensures;
-      end_is = c.head_bytes.ensures ∙ ap head_bytes count-is;
-      fits = rw image_is c.requires.1;
-      small = rw image_is (from_small c.requires.0 c.all-all.ensures);
-    } in
-    let ended : (Ended c.put_header-to.last.0 (record { to = c.put_header-to.result; end = c.head_bytes.result }) ((let a = c.args in picked (has_bit a.mask) a.image.now a.n) ++ (let a = c.args in picked (has_bit c.all-all.result) a.fresh.now a.m)) c.put_ends-done.new.0 c.put_ends-done.result) =
-        ended_both (let a = c.args in picked (has_bit a.mask) a.image.now a.n) (let a = c.args in picked (has_bit c.all-all.result) a.fresh.now a.m) (ends_room headed) c.put_ends-middle.ensures c.put_ends-done.ensures in
-    (fresh-source, second_fits (let a = c.args in picked (has_bit a.mask) a.image.now a.n) (let a = c.args in picked (has_bit c.all-all.result) a.fresh.now a.m) (bytes_room headed ended) c.put_bodies-at.ensures)
+    let p = c.requires in
+    (
+      all_source p.0 c.all-all.ensures,
+      new_bytes p.0 c.all-all.ensures c.rule.ensures p.1 c.put_header-to.ensures c.head_bytes.ensures c.put_ends-middle.ensures c.put_ends-done.ensures
+      c.put_bodies-at.ensures,
+    )
 
 pub returns : goal.returns
 returns c =
-    let image_is : (let a = c.args in image_of c.rule.result ((let a = c.args in picked (has_bit a.mask) a.image.now a.n) ++ (let a = c.args in picked (has_bit c.all-all.result) a.fresh.now a.m)) ≡ image_from a.image.now a.n a.mask a.fresh.now a.m) =
-        from_image c.requires.0 c.all-all.ensures c.rule.ensures in
-    let count-is : c.args.programs ≡ length ((let a = c.args in picked (has_bit a.mask) a.image.now a.n) ++ (let a = c.args in picked (has_bit c.all-all.result) a.fresh.now a.m)) =
-        from_count c.requires.0 c.all-all.ensures in
-    let headed : (Headed c.rule.result ((let a = c.args in picked (has_bit a.mask) a.image.now a.n) ++ (let a = c.args in picked (has_bit c.all-all.result) a.fresh.now a.m)) c.args.out.now c.put_header-to.last.0 (record { to = c.put_header-to.result; end = c.head_bytes.result })) =
-        record {
-      wrote = rw (← count-is) c.put_header-to.ensures;
-      end_is = c.head_bytes.ensures ∙ ap head_bytes count-is;
-      fits = rw image_is c.requires.1;
-      small = rw image_is (from_small c.requires.0 c.all-all.ensures);
-    } in
-    let ended : (Ended c.put_header-to.last.0 (record { to = c.put_header-to.result; end = c.head_bytes.result }) ((let a = c.args in picked (has_bit a.mask) a.image.now a.n) ++ (let a = c.args in picked (has_bit c.all-all.result) a.fresh.now a.m)) c.put_ends-done.new.0 c.put_ends-done.result) =
-        ended_both (let a = c.args in picked (has_bit a.mask) a.image.now a.n) (let a = c.args in picked (has_bit c.all-all.result) a.fresh.now a.m) (ends_room headed) c.put_ends-middle.ensures c.put_ends-done.ensures in
-    rw (← image_is)
-    (image_wrote headed ended (wrote_both (let a = c.args in picked (has_bit a.mask) a.image.now a.n) (let a = c.args in picked (has_bit c.all-all.result) a.fresh.now a.m) (bytes_room headed ended) c.put_bodies-at.ensures c.put_bodies.ensures))
+    let p = c.requires in
+    whole p.0 c.all-all.ensures c.rule.ensures p.1 c.put_header-to.ensures c.head_bytes.ensures c.put_ends-middle.ensures c.put_ends-done.ensures
+    c.put_bodies-at.ensures c.put_bodies.ensures

@@ -1,5 +1,6 @@
 -- Checks 1 to 8 come first; what they have shown lets the states be looked at. Assumes nothing.
-use mathlib.Core.Path.{◌≡◌, refl, sym, ◌∙◌}
+use mathlib.Core.Path.{◌≡◌, refl, sym, ap, ◌∙◌}
+use mathlib.Core.Bool.{not}
 use lib.ListN.{length}
 use Rattle.image.specs.Image.{count_of}
 use Rattle.image.proofs.Refusing.{refuses, accepts, first_refuses, first_passes, number_of}
@@ -24,11 +25,11 @@ unfolding ask_refusal
 returns-then-not-states_from c =
     let looked : (let a = c.args in c.states_from.result ≡ all_ended (length a.table.now) (count_of a.image.now) a.area.now) =
         rw (← c.count.ensures.0) c.states_from.ensures in
-    first_passes c.step_refusal-refused.ensures c.if-refused-ne0.false (refuses _ looked c.if-not-states_from.true)
+    first_passes c.step_refusal-refused.ensures c.if-refused-ne0.false (refuses _ looked (ap not c.if-not-states_from.true))
 
 pub returns : goal.returns
 unfolding ask_refusal
 returns c =
     let looked : (let a = c.args in c.states_from.result ≡ all_ended (length a.table.now) (count_of a.image.now) a.area.now) =
         rw (← c.count.ensures.0) c.states_from.ensures in
-    first_passes c.step_refusal-refused.ensures c.if-refused-ne0.false (accepts _ looked c.if-not-states_from.false refl)
+    first_passes c.step_refusal-refused.ensures c.if-refused-ne0.false (accepts _ looked (ap not c.if-not-states_from.false) refl)

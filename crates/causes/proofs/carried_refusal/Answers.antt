@@ -1,15 +1,22 @@
 -- Checks 1 to 9 come first; what they have shown lets the program's state be looked at. Assumes nothing.
 use mathlib.Core.Path.{◌≡◌, refl, sym, ap, ◌∙◌}
-use lib.ListN.{length}
+use mathlib.Core.Bool.{Bool, not}
+use mathlib.Core.List.{List}
+use Prim.Native.Nat.{ℕ}
 use Rattle.image.proofs.Refusing.{refuses, accepts, first_refuses, first_passes, number_of}
 use Rattle.slot.specs.declared.Group.TheVariants.{Carried}
 use Rattle.slot.specs.States.{is_in}
-use Rattle.area.specs.Layout.{in_group}
+use Rattle.area.specs.Layout.{state_of, in_group}
 use Rattle.area.proofs.Checks.{program_lies}
 use Rattle.causes.specs.Why.{carried_refusal}
 use Rattle.causes.proofs.Refusals.{ask_shows}
 use borrow.Author.Rules.{rules}
 use Rattle.causes.proofs.carried_refusal.Goals as goal
+
+-- the test of the state that was looked at is that of the program
+looked : (T k : ℕ) (a : List ℕ) {state : ℕ} {carried : Bool} → carried ≡ is_in Carried state → state ≡ state_of T k a → carried ≡ in_group Carried T a k
+unfolding in_group
+looked T k a e f = e ∙ ap (is_in Carried) f
 
 pub returns-then-refused-ne0 : goal.returns-then-refused-ne0
 unfolding carried_refusal
@@ -21,15 +28,13 @@ state-state-requires c =
     program_lies _ _ _ shown.0 _ shown.1
 
 pub returns-then-not-is_in : goal.returns-then-not-is_in
-unfolding carried_refusal in_group
+unfolding carried_refusal
 returns-then-not-is_in c =
-    let looked : (let a = c.args in c.is_in.result ≡ in_group Carried (length a.table.now) a.area.now a.number) =
-        c.is_in.ensures ∙ ap (is_in Carried) c.state-state.ensures in
-    first_passes c.ask_refusal-refused.ensures c.if-refused-ne0.false (refuses _ looked c.if-not-is_in.true)
+    first_passes c.ask_refusal-refused.ensures c.if-refused-ne0.false
+    (refuses _ (looked _ _ _ c.is_in.ensures c.state-state.ensures) (ap not c.if-not-is_in.true))
 
 pub returns : goal.returns
-unfolding carried_refusal in_group
+unfolding carried_refusal
 returns c =
-    let looked : (let a = c.args in c.is_in.result ≡ in_group Carried (length a.table.now) a.area.now a.number) =
-        c.is_in.ensures ∙ ap (is_in Carried) c.state-state.ensures in
-    first_passes c.ask_refusal-refused.ensures c.if-refused-ne0.false (accepts _ looked c.if-not-is_in.false refl)
+    first_passes c.ask_refusal-refused.ensures c.if-refused-ne0.false
+    (accepts _ (looked _ _ _ c.is_in.ensures c.state-state.ensures) (ap not c.if-not-is_in.false) refl)

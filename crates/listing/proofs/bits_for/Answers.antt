@@ -33,5 +33,3 @@ returns c =
     let l = c.loop-k in
     let a = c.args in
     find_end a.area.now a.at a.count c.requires l.k a.readers.now l.found _ l.invariant.1 (omega arith)
-
--- TO DO answer cast-cell (overflow-cast-cell) has no goal now

@@ -22,4 +22,4 @@ returns c =
     let o = c.copy_order in
     whole_order a.cells a.n a.area.now a.blockers.now a.all c.requires.slots.few c.requires.committed c.requires.blocked
     p.result c.count.result a.list.now p.ensures.as_many c.count.ensures.0
-    p.new.1.1.1.0 o.new.1.1.0 c.if-found-count.false p.ensures.front o.ensures
+    p.new.order o.new.list c.if-found-count.false p.ensures.front o.ensures

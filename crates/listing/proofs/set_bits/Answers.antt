@@ -44,5 +44,3 @@ returns c =
     let l = c.loop-k in
     let a = c.args in
     set_end a.area.now a.at a.count c.requires.0 l.k a.bit l.readers _ l.invariant.2 (omega arith)
-
--- TO DO answer cast-cell (overflow-cast-cell) has no goal now

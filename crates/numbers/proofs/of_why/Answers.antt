@@ -3,10 +3,10 @@ use borrow.Author.Rules.{rules}
 use Rattle.numbers.proofs.of_why.Goals as goal
 
 pub returns-in-Waw : goal.returns-in-Waw
-returns-in-Waw c = rw c.answer-in-Waw-1.given.1 c.carried_for.ensures
+returns-in-Waw c = rw c.in-Waw.is c.carried_for.ensures
 
 pub returns-in-Raw : goal.returns-in-Raw
-returns-in-Raw c = rw c.answer-in-Raw-1.given.1 c.carried_for-in-Raw.ensures
+returns-in-Raw c = rw c.in-Raw.is c.carried_for-in-Raw.ensures
 
 pub returns-in-RawWithWar : goal.returns-in-RawWithWar
-returns-in-RawWithWar c = rw c.answer-in-RawWithWar-1.given.1 c.carried_for-in-RawWithWar.ensures
+returns-in-RawWithWar c = rw c.in-RawWithWar.is c.carried_for-in-RawWithWar.ensures

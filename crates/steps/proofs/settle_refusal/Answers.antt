@@ -1,5 +1,6 @@
 -- Checks 1 to 8 come first; what they have shown lets the states be looked at. Assumes nothing.
-use mathlib.Core.Path.{◌≡◌, refl, sym, ◌∙◌}
+use mathlib.Core.Path.{◌≡◌, refl, sym, ap, ◌∙◌}
+use mathlib.Core.Bool.{not}
 use Prim.Native.Nat.{◌<◌}
 use native.Mathlib.Omega.{arith}
 use lib.ListN.{length}
@@ -28,11 +29,11 @@ unfolding settle_refusal
 returns-then-not-is_ready c =
     let looked : (let a = c.args in c.is_ready.result ≡ is_ready (length a.table.now) (count_of a.image.now) a.number a.area.now) =
         rw (← c.count.ensures.0) c.is_ready.ensures in
-    first_passes c.step_refusal-refused.ensures c.if-refused-ne0.false (refuses _ looked c.if-not-is_ready.true)
+    first_passes c.step_refusal-refused.ensures c.if-refused-ne0.false (refuses _ looked (ap not c.if-not-is_ready.true))
 
 pub returns : goal.returns
 unfolding settle_refusal
 returns c =
     let looked : (let a = c.args in c.is_ready.result ≡ is_ready (length a.table.now) (count_of a.image.now) a.number a.area.now) =
         rw (← c.count.ensures.0) c.is_ready.ensures in
-    first_passes c.step_refusal-refused.ensures c.if-refused-ne0.false (accepts _ looked c.if-not-is_ready.false refl)
+    first_passes c.step_refusal-refused.ensures c.if-refused-ne0.false (accepts _ looked (ap not c.if-not-is_ready.false) refl)

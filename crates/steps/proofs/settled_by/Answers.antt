@@ -3,10 +3,10 @@ use borrow.Author.Rules.{rules}
 use Rattle.steps.proofs.settled_by.Goals as goal
 
 pub returns-in-Waw : goal.returns-in-Waw
-returns-in-Waw c = rw c.enum_told-in-Waw-1.given.1
+returns-in-Waw c = rw c.in-Waw.is
 
 pub returns-in-Raw : goal.returns-in-Raw
-returns-in-Raw c = rw c.enum_told-in-Raw-1.given.1
+returns-in-Raw c = rw c.in-Raw.is
 
 pub returns-in-RawWithWar : goal.returns-in-RawWithWar
-returns-in-RawWithWar c = rw c.enum_told-in-RawWithWar-1.given.1
+returns-in-RawWithWar c = rw c.in-RawWithWar.is

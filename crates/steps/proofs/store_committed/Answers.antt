@@ -5,12 +5,12 @@ use Rattle.steps.proofs.store_committed.Goals as goal
 
 pub returns-in-Refused : goal.returns-in-Refused
 unfolding settled_table
-returns-in-Refused c = rw c.enum_told-1.given.1
+returns-in-Refused c = rw c.in-Refused.is
 
 pub returns-in-Committed : goal.returns-in-Committed
 unfolding settled_table
-returns-in-Committed c = rw c.enum_told-in-Committed-1.given.1 c.commit.ensures
+returns-in-Committed c = rw c.in-Committed.is c.commit.ensures
 
 pub returns-in-Carried : goal.returns-in-Carried
 unfolding settled_table
-returns-in-Carried c = rw c.enum_told-in-Carried-1.given.1
+returns-in-Carried c = rw c.in-Carried.is
