@@ -2,9 +2,9 @@
 // there is a line on standard error, and nothing is written.
 #![tactic(auto)]
 
-fn main() {
+fn main(rt: HostRuntime) {
     let mut table = [0u32; image::Image::CELLS];
-    let cells = from_arguments::read(b"cells", arguments::Kind::Cells, &mut table);
+    let cells = from_arguments::read(&rt, b"cells", arguments::Kind::Cells, &mut table);
     if cells == 0 {
         return;
     }

@@ -2,9 +2,9 @@
 // line on standard error, and nothing is written.
 #![tactic(auto)]
 
-fn main() {
+fn main(rt: HostRuntime) {
     let mut guards = [0u32; guard::ENDS * image::Image::CELLS];
-    let ends = from_arguments::read(b"guards", arguments::Kind::Ends, &mut guards);
+    let ends = from_arguments::read(&rt, b"guards", arguments::Kind::Ends, &mut guards);
     if ends == 0 {
         return;
     }

@@ -8,7 +8,7 @@ ghost use Rattle.guard.specs.Guards.{guard_words};
 ghost use Rattle.prefix.specs.Prefix.{prefix_bytes};
 ghost use Rattle.input.specs.Prefix.{word_at, words_from, table_in, guards_in, guards_end, image_from, cells_of};
 
-const IN: i32 = 0;
+use std::io::Read;
 
 const COUNT_BYTES: usize = 2;
 
@@ -21,25 +21,27 @@ pub const LONGEST: usize = COUNT_BYTES + CELL_BYTES * image::Image::CELLS + imag
 pub const LONGEST_GUARDED: usize = LONGEST + CELL_BYTES * guard::ENDS * image::Image::CELLS;
 
 // Reads once, behind the bytes that are there, and answers how many came: 0 at the input's end, and where the read fails, which it tells in the program's name.
-fn read_on(program: &[u8], input: &mut [u8], there: usize) -> usize
+fn read_on(reader: &mut impl Read, program: &[u8], input: &mut [u8], there: usize) -> usize
     requires { there ≤ length input.old }
     ensures { (there + result ≤ length input.old) × (length input.new ≡ length input.old) }
 {
-    let rest = &mut input[there..];
-    let got = libc::read(IN, rest);
-    if got < 0 {
-        output::complain(program, b"standard input cannot be read");
+    match reader.read(&mut input[there..]) {
+        Ok(got) => got,
+        Err(_) => {
+            output::complain(program, b"standard input cannot be read");
+            0
+        }
     }
-    io::count(got, rest)
 }
 
 // Reads until what is lent is full or nothing more comes, and answers how many bytes came.
-pub fn read_input(program: &[u8], input: &mut [u8]) -> usize
+pub fn read_input(rt: &impl Input, program: &[u8], input: &mut [u8]) -> usize
     ensures { IsPrefixLen result input.new }
 {
+    let mut reader = rt.reader();
     let mut there = 0;
     while there < input.len() {
-        let more = read_on(program, input, there);
+        let more = read_on(&mut reader, program, input, there);
         if more == 0 {
             break;
         }

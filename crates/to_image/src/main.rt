@@ -1,9 +1,9 @@
 // Reads a sheet from standard input and writes its image: document 02, ask 1. The page is made in a buffer and written once.
 #![tactic(auto)]
 
-fn main() {
+fn main(rt: HostRuntime) {
     let mut bytes = converted::input_room();
-    let n = input::read_input(b"to_image", &mut bytes);
+    let n = input::read_input(&rt, b"to_image", &mut bytes);
     if converted::LONGEST_INPUT < n {
         output::complain(b"to_image", &converted::TOO_LONG);
         return;

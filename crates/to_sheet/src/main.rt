@@ -1,9 +1,9 @@
 // Reads an image from standard input and writes its sheet: document 02, ask 1. The page is made in a buffer and written once.
 #![tactic(auto)]
 
-fn main() {
+fn main(rt: HostRuntime) {
     let mut bytes = converted::input_room();
-    let n = input::read_input(b"to_sheet", &mut bytes);
+    let n = input::read_input(&rt, b"to_sheet", &mut bytes);
     if converted::LONGEST_INPUT < n {
         output::complain(b"to_sheet", &converted::TOO_LONG);
         return;

@@ -2,7 +2,12 @@
 // what an independent implementation printed (tests/vectors). A pack is a list of inputs: four bytes of length, low first, and then the bytes.
 #![tactic(auto)]
 
-ghost use Rattle.std.specs.Prelude.{◌≡◌, ◌≤◌, ◌<◌, length};
+ghost use Rattle.std.specs.Prelude.{◌≡◌, ◌+◌, ◌≤◌, ◌<◌, length};
+ghost use Rattle.io.specs.Counts.{IsPrefixLen};
+
+use std::fs::File;
+use std::io::Read;
+use std::rt::Files;
 
 const OUT: i32 = 1;
 
@@ -58,9 +63,35 @@ fn print_reasons(from: report::Guards, input: &[u8]) {
     output::print(b"vectors", &page[0..end]);
 }
 
+// Reads once, behind the bytes that are there, and answers how many came: 0 at the pack's end, and where the read fails.
+fn read_on(pack: &mut impl Read, input: &mut [u8], there: usize) -> usize
+    requires { there ≤ length input.old }
+    ensures { (there + result ≤ length input.old) × (length input.new ≡ length input.old) }
+{
+    match pack.read(&mut input[there..]) {
+        Ok(got) => got,
+        Err(_) => 0,
+    }
+}
+
+// Reads until what is lent is full or nothing more comes, and answers how many bytes came.
+fn read_full(pack: &mut impl Read, input: &mut [u8]) -> usize
+    ensures { IsPrefixLen result input.new }
+{
+    let mut there = 0;
+    while there < input.len() {
+        let more = read_on(pack, input, there);
+        if more == 0 {
+            break;
+        }
+        there += more;
+    }
+    there
+}
+
 // Reads an input that fills what is lent, and runs it for what came of it, or why.
-fn run_input(pack: i32, input: &mut [u8], from: report::Guards, why: bool) {
-    let got = io::read_full(pack, input);
+fn run_input(pack: &mut impl Read, input: &mut [u8], from: report::Guards, why: bool) {
+    let got = read_full(pack, input);
     if why {
         print_reasons(from, &input[..got]);
     } else {
@@ -69,9 +100,15 @@ fn run_input(pack: i32, input: &mut [u8], from: report::Guards, why: bool) {
 }
 
 // Runs the next input of a pack, and answers whether there was one.
-fn run_next(pack: i32, name: &[u8], from: report::Guards, why: bool, number: u64) -> bool {
+fn run_next(
+    pack: &mut impl Read,
+    name: &[u8],
+    from: report::Guards,
+    why: bool,
+    number: u64,
+) -> bool {
     let mut head = [0u8; 4];
-    if io::read_full(pack, &mut head) < 4 {
+    if read_full(pack, &mut head) < 4 {
         return false;
     }
     print_heading(name, why, number);
@@ -82,7 +119,7 @@ fn run_next(pack: i32, name: &[u8], from: report::Guards, why: bool, number: u64
 }
 
 // Runs every input of a pack. No pack has as many as the loop would take.
-fn run_all(pack: i32, name: &[u8], from: report::Guards, why: bool) {
+fn run_all(pack: &mut impl Read, name: &[u8], from: report::Guards, why: bool) {
     let mut number: u64 = 0;
     while number < 1000000 {
         if !run_next(pack, name, from, why, number) {
@@ -93,26 +130,37 @@ fn run_all(pack: i32, name: &[u8], from: report::Guards, why: bool) {
 }
 
 // Opens a pack and runs it.
-fn run_pack(file: &[u8], name: &[u8], from: report::Guards, why: bool) {
-    let pack = os::open_read(file);
-    if pack < 0 {
-        os::fail(file);
-        return;
+fn run_pack(rt: &(impl Files + Eprint), file: &str, name: &[u8], from: report::Guards, why: bool) {
+    match File::open(rt, file) {
+        Ok(mut pack) => run_all(&mut pack, name, from, why),
+        Err(error) => {
+            let _ = eprintln!(rt; "{file}: {error}");
+        }
     }
-    run_all(pack, name, from, why);
-    libc::close(pack);
 }
 
 // Runs the packs whose inputs have no guards, and then the one whose inputs do.
-fn run_packs(why: bool) {
-    run_pack(b"bench.pack", b"bench", report::Guards::FullRange, why);
-    run_pack(b"good.pack", b"good", report::Guards::FullRange, why);
-    run_pack(b"edge.pack", b"edge", report::Guards::FullRange, why);
-    run_pack(b"damaged.pack", b"damaged", report::Guards::FullRange, why);
-    run_pack(b"guarded.pack", b"guarded", report::Guards::FromInput, why);
+fn run_packs(rt: &(impl Files + Eprint), why: bool) {
+    run_pack(rt, "bench.pack", b"bench", report::Guards::FullRange, why);
+    run_pack(rt, "good.pack", b"good", report::Guards::FullRange, why);
+    run_pack(rt, "edge.pack", b"edge", report::Guards::FullRange, why);
+    run_pack(
+        rt,
+        "damaged.pack",
+        b"damaged",
+        report::Guards::FullRange,
+        why,
+    );
+    run_pack(
+        rt,
+        "guarded.pack",
+        b"guarded",
+        report::Guards::FromInput,
+        why,
+    );
 }
 
-fn main() {
-    run_packs(false);
-    run_packs(true);
+fn main(rt: HostRuntime) {
+    run_packs(&rt, false);
+    run_packs(&rt, true);
 }

@@ -2,9 +2,9 @@
 // once.
 #![tactic(auto)]
 
-fn main() {
+fn main(rt: HostRuntime) {
     let mut bytes = [0u8; input::LONGEST];
-    let n = input::read_input(b"why", &mut bytes);
+    let n = input::read_input(&rt, b"why", &mut bytes);
     let mut page = reasons::page_room();
     let end = report::reasons_page(report::Guards::FullRange, &bytes[..n], &mut page);
     if end == 0 {

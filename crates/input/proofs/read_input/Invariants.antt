@@ -3,12 +3,10 @@
 use Prim.Native.Nat.{◌≤◌, ◌-◌}
 use mathlib.Core.Path.{◌≡◌}
 use lib.ListN.{length}
-use borrow.Author.Rules.{rules}
-use Rattle.io.proofs.Counting.{prefix_len_of_le}
 use Rattle.input.proofs.read_input.Given as goal
 
 abbrev pub invariant-loop-there : goal.invariant-loop-there
-invariant-loop-there l = (l.there ≤ length l.input) × (length l.input ≡ length l.initial.input)
+invariant-loop-there g l = (l.there ≤ length l.input) × (length l.input ≡ length l.initial.input)
 
 abbrev pub decreases-loop-there : goal.decreases-loop-there
-decreases-loop-there l = length l.input - l.there
+decreases-loop-there g l = length l.input - l.there

@@ -4,16 +4,15 @@ use native.Mathlib.Omega.{arith}
 use Prim.Native.Nat.{◌<◌, ◌^◌}
 use Rattle.carry.specs.declared.Next.{Next}
 use Rattle.carry.specs.Next.{numbers_of_next}
-use borrow.Author.Rules.{rules}
 use Rattle.sheetbendle_c.proofs.of_next.Goals as goal
 
 pub overflow_cast-result : goal.overflow_cast-result
 overflow_cast-result c =
-    let small : c.answer-in-Length-1.given.0.0 < 2 ^ 32 = subst (λ (x : Next). (numbers_of_next x).count < 2 ^ 32) c.answer-in-Length-1.given.1 c.requires in
+    let small : c.in-Length.length < 2 ^ 32 = subst (λ (x : Next). (numbers_of_next x).count < 2 ^ 32) c.in-Length.is c.requires in
     omega arith
 
 pub returns-in-Refused : goal.returns-in-Refused
-returns-in-Refused c = rw c.answer-1.given.1 (record { refusal = refl; count = refl })
+returns-in-Refused c = rw c.in-Refused.is (record { refusal = refl; count = refl })
 
 pub returns-in-Length : goal.returns-in-Length
-returns-in-Length c = rw c.answer-in-Length-1.given.1 (record { refusal = refl; count = refl })
+returns-in-Length c = rw c.in-Length.is (record { refusal = refl; count = refl })

@@ -2,21 +2,20 @@
 use mathlib.Core.Path.{refl, subst}
 use native.Mathlib.Omega.{arith}
 use Prim.Native.Nat.{◌<◌, ◌^◌}
-use borrow.Author.Rules.{rules}
 use Rattle.sheet.specs.declared.Written.{Written}
 use Rattle.sheet.specs.Answers.{numbers_of_written}
 use Rattle.sheetbendle_c.proofs.of_written.Goals as goal
 
 pub overflow_cast-result : goal.overflow_cast-result
 overflow_cast-result c =
-    let small : c.answer-in-Length-1.given.0.0 < 2 ^ 32 = subst (λ (x : Written). (numbers_of_written x).length < 2 ^ 32) c.answer-in-Length-1.given.1 c.requires in
+    let small : c.in-Length.length < 2 ^ 32 = subst (λ (x : Written). (numbers_of_written x).length < 2 ^ 32) c.in-Length.is c.requires in
     omega arith
 
 pub returns-in-Refused : goal.returns-in-Refused
-returns-in-Refused c = rw c.answer-1.given.1 (record { refusal = refl; extent = refl; line = refl })
+returns-in-Refused c = rw c.in-Refused.is (record { refusal = refl; extent = refl; line = refl })
 
 pub returns-in-BadLine : goal.returns-in-BadLine
-returns-in-BadLine c = rw c.answer-in-BadLine-1.given.1 (record { refusal = refl; extent = refl; line = c.line_shown.ensures })
+returns-in-BadLine c = rw c.in-BadLine.is (record { refusal = refl; extent = refl; line = c.line_shown.ensures })
 
 pub returns-in-Length : goal.returns-in-Length
-returns-in-Length c = rw c.answer-in-Length-1.given.1 (record { refusal = refl; extent = refl; line = refl })
+returns-in-Length c = rw c.in-Length.is (record { refusal = refl; extent = refl; line = refl })

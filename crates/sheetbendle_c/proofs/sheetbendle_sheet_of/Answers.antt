@@ -1,10 +1,10 @@
 -- The call under it says what this one tells. Assumes nothing.
-use borrow.Author.Rules.{rules}
+use native.Mathlib.Omega.{arith}
 use Rattle.sheetbendle_c.proofs.Tells.{sheet_of_tells, sheet_of_small}
 use Rattle.sheetbendle_c.proofs.sheetbendle_sheet_of.Goals as goal
 
 pub of_written-requires : goal.of_written-requires
-of_written-requires c = sheet_of_small _ _ (λ i. (c.shared_slice_known-1.given i).fits) _ _ c.sheet_of.ensures
+of_written-requires c = sheet_of_small _ _ (λ i. omega arith) _ _ c.sheet_of.ensures
 
 pub returns : goal.returns
 returns c = sheet_of_tells _ _ _ _ _ c.sheet_of.ensures c.of_written.ensures
