@@ -1,7 +1,7 @@
 /*
  * A beacon runs two passes of small programs over a table of four cells, one of which is guarded.
  *
- * Build and run, from the repository's root, once the archive is there (rt staticlib sheetbendle_c):
+ * Build and run, from the repository's root, once the archive is there (rt lib, in crates/sheetbendle_c):
  *
  *     tools/cc examples/beacon.c target/beacon
  *     tools/run target/beacon

@@ -4,7 +4,7 @@
  * batch their tables, areas, orders and next images must be equal. Batches follow until no program
  * is carried any more.
  *
- * Build and run, from the repository's root, once the archive is there (rt staticlib sheetbendle_c):
+ * Build and run, from the repository's root, once the archive is there (rt lib, in crates/sheetbendle_c):
  *
  *     tools/cc examples/boards.c target/boards
  *     tools/run target/boards

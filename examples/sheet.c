@@ -2,7 +2,7 @@
  * Types a sheet, makes its image, and makes the sheet again from the image; then types two that are
  * refused, and says at which line and at which instruction.
  *
- * Build and run, from the repository's root, once the archive is there (rt staticlib sheetbendle_c):
+ * Build and run, from the repository's root, once the archive is there (rt lib, in crates/sheetbendle_c):
  *
  *     tools/cc examples/sheet.c target/sheet
  *     tools/run target/sheet

@@ -1,7 +1,7 @@
 /*
  * Runs a batch under each rule and says in words why a program was carried.
  *
- * Build and run, from the repository's root, once the archive is there (rt staticlib sheetbendle_c):
+ * Build and run, from the repository's root, once the archive is there (rt lib, in crates/sheetbendle_c):
  *
  *     tools/cc examples/why.c target/why
  *     tools/run target/why

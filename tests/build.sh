@@ -1,11 +1,11 @@
 # shellcheck shell=bash
 # What the scripts of tests/ and bench/ share: where things are built, and what they need.
-# Sourced by them, in bash, from the repository's root. Everything built lies under target/tests.
+# Sourced by them, in bash, from the repository's root. All that they build lies under target/tests; the archive is rt's.
 
 . tools/x86-64.sh
 
 built=target/tests
-archive=target/staticlib/libsheetbendle_c.a
+archive=crates/sheetbendle_c/out/libsheetbendle_c.a
 driver=$built/driver
 
 need_rustc() {

@@ -12,13 +12,11 @@ native() {
     [ "$(uname -m)" = x86_64 ]
 }
 
-# Where the kit keeps what it has for this machine: in bin/ its own commands, in toolchain/ a compiler, a C library and, where x86-64 code needs one,
-# an emulator.
-kit_part() {
+# Where the kit lies: in bin/ it has its own commands, in toolchain/ a compiler, a linker and a C library.
+kit_folder() {
     command -v rt >/dev/null || missing "rt (the Rattle kit)"
-    local kit part
-    kit=$(dirname "$(dirname "$(rt doc)")")
-    part=$kit/on/$(uname -m)
-    [ -d "$part/toolchain" ] || missing "the Rattle kit's part for this machine, $(uname -m)"
-    echo "$part"
+    local kit
+    kit=$(dirname "$(rt doc)")
+    [ -d "$kit/toolchain" ] || missing "the toolchain of the Rattle kit"
+    echo "$kit"
 }
