@@ -21,41 +21,41 @@ returns-then-refused-ne0 c =
 pub members-mask-requires : goal.members-mask-requires
 members-mask-requires c =
     let lent : (let a = c.args in (lent_refusal a.image.now a.table.now a.guards.now a.area.now a.fresh.now).number ≡ 0) =
-        number_of (sym c.lent_refusal-refused.ensures) ∙ c.if-refused-ne0.false in
+    number_of (sym c.lent_refusal-refused.ensures) ∙ c.if-refused-ne0.false in
     measured _ _ _ (lent_shows _ _ _ _ _ lent).0 _ c.count-n.ensures.0
 
 pub count-requires : goal.count-requires
 count-requires c =
     let lent : (let a = c.args in (lent_refusal a.image.now a.table.now a.guards.now a.area.now a.fresh.now).number ≡ 0) =
-        number_of (sym c.lent_refusal-refused.ensures) ∙ c.if-refused-ne0.false in
+    number_of (sym c.lent_refusal-refused.ensures) ∙ c.if-refused-ne0.false in
     omega (arith, (lent_shows _ _ _ _ _ lent).0.programs, c.count-n.ensures.0)
 
 pub size_refusal-large-requires : goal.size_refusal-large-requires
 size_refusal-large-requires c =
     let lent : (let a = c.args in (lent_refusal a.image.now a.table.now a.guards.now a.area.now a.fresh.now).number ≡ 0) =
-        number_of (sym c.lent_refusal-refused.ensures) ∙ c.if-refused-ne0.false in
+    number_of (sym c.lent_refusal-refused.ensures) ∙ c.if-refused-ne0.false in
     let chosen : (let a = c.args in let m = c.count-m.result in Chosen a.image.now a.table.now a.guards.now a.area.now a.fresh.now c.count-n.result m c.members-mask.result (c.count.result + m)) =
-        record {
-          lent = lent;
-          n_is = c.count-n.ensures.0;
-          m_is = c.count-m.ensures.0;
-          mask_is = c.members-mask.ensures;
-          counted = omega (arith, c.count.ensures.0);
-        } in
+    record {
+      lent = lent;
+      n_is = c.count-n.ensures.0;
+      m_is = c.count-m.ensures.0;
+      mask_is = c.members-mask.ensures;
+      counted = omega (arith, c.count.ensures.0);
+    } in
     chosen_sources chosen
 
 pub returns-then-large-ne0 : goal.returns-then-large-ne0
 returns-then-large-ne0 c =
     let lent : (let a = c.args in (lent_refusal a.image.now a.table.now a.guards.now a.area.now a.fresh.now).number ≡ 0) =
-        number_of (sym c.lent_refusal-refused.ensures) ∙ c.if-refused-ne0.false in
+    number_of (sym c.lent_refusal-refused.ensures) ∙ c.if-refused-ne0.false in
     let chosen : (let a = c.args in let m = c.count-m.result in Chosen a.image.now a.table.now a.guards.now a.area.now a.fresh.now c.count-n.result m c.members-mask.result (c.count.result + m)) =
-        record {
-          lent = lent;
-          n_is = c.count-n.ensures.0;
-          m_is = c.count-m.ensures.0;
-          mask_is = c.members-mask.ensures;
-          counted = omega (arith, c.count.ensures.0);
-        } in
+    record {
+      lent = lent;
+      n_is = c.count-n.ensures.0;
+      m_is = c.count-m.ensures.0;
+      mask_is = c.members-mask.ensures;
+      counted = omega (arith, c.count.ensures.0);
+    } in
     let a = c.args in
     next_refused a.image.now a.table.now a.guards.now a.area.now a.fresh.now a.out.now _
     (chosen_size chosen a.out.now c.size_refusal-large.ensures) c.if-large-ne0.true
@@ -63,28 +63,28 @@ returns-then-large-ne0 c =
 pub write_next-requires : goal.write_next-requires
 write_next-requires c =
     let lent : (let a = c.args in (lent_refusal a.image.now a.table.now a.guards.now a.area.now a.fresh.now).number ≡ 0) =
-        number_of (sym c.lent_refusal-refused.ensures) ∙ c.if-refused-ne0.false in
+    number_of (sym c.lent_refusal-refused.ensures) ∙ c.if-refused-ne0.false in
     let chosen : (let a = c.args in let m = c.count-m.result in Chosen a.image.now a.table.now a.guards.now a.area.now a.fresh.now c.count-n.result m c.members-mask.result (c.count.result + m)) =
-        record {
-          lent = lent;
-          n_is = c.count-n.ensures.0;
-          m_is = c.count-m.ensures.0;
-          mask_is = c.members-mask.ensures;
-          counted = omega (arith, c.count.ensures.0);
-        } in
+    record {
+      lent = lent;
+      n_is = c.count-n.ensures.0;
+      m_is = c.count-m.ensures.0;
+      mask_is = c.members-mask.ensures;
+      counted = omega (arith, c.count.ensures.0);
+    } in
     let k = chosen in
     (chosen_sources k, chosen_fits k _ c.size_refusal-large.ensures c.if-large-ne0.false)
 
 pub returns : goal.returns
 returns c =
     let lent : (let a = c.args in (lent_refusal a.image.now a.table.now a.guards.now a.area.now a.fresh.now).number ≡ 0) =
-        number_of (sym c.lent_refusal-refused.ensures) ∙ c.if-refused-ne0.false in
+    number_of (sym c.lent_refusal-refused.ensures) ∙ c.if-refused-ne0.false in
     let chosen : (let a = c.args in let m = c.count-m.result in Chosen a.image.now a.table.now a.guards.now a.area.now a.fresh.now c.count-n.result m c.members-mask.result (c.count.result + m)) =
-        record {
-          lent = lent;
-          n_is = c.count-n.ensures.0;
-          m_is = c.count-m.ensures.0;
-          mask_is = c.members-mask.ensures;
-          counted = omega (arith, c.count.ensures.0);
-        } in
+    record {
+      lent = lent;
+      n_is = c.count-n.ensures.0;
+      m_is = c.count-m.ensures.0;
+      mask_is = c.members-mask.ensures;
+      counted = omega (arith, c.count.ensures.0);
+    } in
     chosen_done chosen _ c.size_refusal-large.ensures c.if-large-ne0.false c.write_next.ensures

@@ -98,11 +98,10 @@ put_bodies-at-requires c =
 
 pub put_bodies-requires : goal.put_bodies-requires
 put_bodies-requires c =
-    let p = c.requires in
-    (
+    let p = c.requires in (
       all_source p.0 c.all-all.ensures,
       new_bytes p.0 c.all-all.ensures c.rule.ensures p.1 c.put_header-to.ensures c.head_bytes.ensures c.put_ends-middle.ensures c.put_ends-done.ensures
-      c.put_bodies-at.ensures,
+          c.put_bodies-at.ensures,
     )
 
 pub returns : goal.returns

@@ -24,12 +24,12 @@ pub returns-then-not-states_from : goal.returns-then-not-states_from
 unfolding ask_refusal
 returns-then-not-states_from c =
     let looked : (let a = c.args in c.states_from.result ≡ all_ended (length a.table.now) (count_of a.image.now) a.area.now) =
-        rw (← c.count.ensures.0) c.states_from.ensures in
+    rw (← c.count.ensures.0) c.states_from.ensures in
     first_passes c.step_refusal-refused.ensures c.if-refused-ne0.false (refuses _ looked (ap not c.if-not-states_from.true))
 
 pub returns : goal.returns
 unfolding ask_refusal
 returns c =
     let looked : (let a = c.args in c.states_from.result ≡ all_ended (length a.table.now) (count_of a.image.now) a.area.now) =
-        rw (← c.count.ensures.0) c.states_from.ensures in
+    rw (← c.count.ensures.0) c.states_from.ensures in
     first_passes c.step_refusal-refused.ensures c.if-refused-ne0.false (accepts _ looked (ap not c.if-not-states_from.false) refl)

@@ -18,19 +18,19 @@ pub returns-then-cells-cell : goal.returns-then-cells-cell
 unfolding before_of
 returns-then-cells-cell c =
     let no-raw : (let a = c.args in a.cells ≤ lowest Reads Write a.cells a.number a.area.now) =
-        omega (arith, c.lowest-cell.ensures, c.if-cells-cell.true) in
+    omega (arith, c.lowest-cell.ensures, c.if-cells-cell.true) in
     rw (depends_lowest Reads Write _ _ _ c.requires ∙ le-ltb _ _ no-raw)
 
 pub cause_at-requires : goal.cause_at-requires
 cause_at-requires c =
     let has-raw : (let a = c.args in lowest Reads Write a.cells a.number a.area.now < a.cells) =
-        omega (arith, c.lowest-cell.ensures, c.if-cells-cell.false) in
+    omega (arith, c.lowest-cell.ensures, c.if-cells-cell.false) in
     rw c.lowest-cell.ensures (lowest_names _ _ _ c.requires Reads Write has-raw)
 
 pub returns : goal.returns
 unfolding before_of cause_of
 returns c =
     let has-raw : (let a = c.args in lowest Reads Write a.cells a.number a.area.now < a.cells) =
-        omega (arith, c.lowest-cell.ensures, c.if-cells-cell.false) in
+    omega (arith, c.lowest-cell.ensures, c.if-cells-cell.false) in
     rw (depends_lowest Reads Write _ _ _ c.requires ∙ lt-ltb _ _ has-raw)
     (ap Program (c.cause_at.ensures ∙ rw c.lowest-cell.ensures))

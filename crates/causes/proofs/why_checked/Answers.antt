@@ -15,7 +15,7 @@ judge-verdict-requires c = program_slotted _ _ _ c.requires.0 _ c.requires.1
 pub returns-then-detail-reason : goal.returns-then-detail-reason
 returns-then-detail-reason c =
     let leaves : c.detail_of-reason.result ≡ (numbers_of_settled (settled_by c.judge-verdict.result)).detail =
-        c.detail_of-reason.ensures ∙ ap (λ (v : Settled). (numbers_of_settled v).detail) c.settled_by.ensures in
+    c.detail_of-reason.ensures ∙ ap (λ (v : Settled). (numbers_of_settled v).detail) c.settled_by.ensures in
     other_detail _ _ _ _ _ c.judge-verdict.ensures _ leaves (λ e. c.if-detail-reason.true (c.detail.ensures ∙ e))
 
 pub with_cause-requires : goal.with_cause-requires
@@ -24,5 +24,5 @@ with_cause-requires c = rw c.judge-verdict.ensures (verdict_names _ _ _ (program
 pub returns : goal.returns
 returns c =
     let leaves : c.detail_of-reason.result ≡ (numbers_of_settled (settled_by c.judge-verdict.result)).detail =
-        c.detail_of-reason.ensures ∙ ap (λ (v : Settled). (numbers_of_settled v).detail) c.settled_by.ensures in
+    c.detail_of-reason.ensures ∙ ap (λ (v : Settled). (numbers_of_settled v).detail) c.settled_by.ensures in
     same_detail _ _ _ _ _ c.judge-verdict.ensures _ leaves (sym c.detail.ensures ∙ c.if-detail-reason.false) _ c.with_cause.ensures

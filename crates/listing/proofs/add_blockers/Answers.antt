@@ -17,13 +17,13 @@ least-i-requires c = (omega (arith, c.loop-rest-test.true), c.loop-rest.invarian
 pub offset_bounds-blockers-i : goal.offset_bounds-blockers-i
 offset_bounds-blockers-i c =
     let few : c.least-i.result < word_bits =
-        let l = c.loop-rest in member_few _ l.rest c.least-i.result l.invariant.part c.least-i.ensures in
+    let l = c.loop-rest in member_few _ l.rest c.least-i.result l.invariant.part c.least-i.ensures in
     omega (arith, few)
 
 pub bounds-blockers-i : goal.bounds-blockers-i
 bounds-blockers-i c =
     let few : c.least-i.result < word_bits =
-        let l = c.loop-rest in member_few _ l.rest c.least-i.result l.invariant.part c.least-i.ensures in
+    let l = c.loop-rest in member_few _ l.rest c.least-i.result l.invariant.part c.least-i.ensures in
     few
 
 pub readers_of-requires : goal.readers_of-requires
@@ -35,13 +35,13 @@ raised-requires c = c.requires.1
 pub offset_bounds-blockers-i-in-loop-rest : goal.offset_bounds-blockers-i-in-loop-rest
 offset_bounds-blockers-i-in-loop-rest c =
     let few : c.least-i.result < word_bits =
-        let l = c.loop-rest in member_few _ l.rest c.least-i.result l.invariant.part c.least-i.ensures in
+    let l = c.loop-rest in member_few _ l.rest c.least-i.result l.invariant.part c.least-i.ensures in
     omega (arith, few)
 
 pub bounds-blockers-i-in-loop-rest : goal.bounds-blockers-i-in-loop-rest
 bounds-blockers-i-in-loop-rest c =
     let few : c.least-i.result < word_bits =
-        let l = c.loop-rest in member_few _ l.rest c.least-i.result l.invariant.part c.least-i.ensures in
+    let l = c.loop-rest in member_few _ l.rest c.least-i.result l.invariant.part c.least-i.ensures in
     few
 
 pub loop-rest-smaller : goal.loop-rest-smaller

@@ -19,7 +19,7 @@ loop-k-init c =
 pub bounds-readers-cell : goal.bounds-readers-cell
 bounds-readers-cell c =
     let cell-few : (let a = c.args in get_or a.area.now (a.at + c.loop-k.k) 0 < max_cells) =
-        c.requires.in_table c.loop-k.k (omega arith) in
+    c.requires.in_table c.loop-k.k (omega arith) in
     cell-few
 
 pub loop-k-preserved : goal.loop-k-preserved

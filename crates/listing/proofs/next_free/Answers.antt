@@ -14,25 +14,25 @@ least-i-requires c = (omega (arith, c.loop-rest-test.true), c.loop-rest.invarian
 pub offset_bounds-blockers-i : goal.offset_bounds-blockers-i
 offset_bounds-blockers-i c =
     let few : c.least-i.result < word_bits =
-        let l = c.loop-rest in member_few _ l.rest c.least-i.result l.invariant.part c.least-i.ensures in
+    let l = c.loop-rest in member_few _ l.rest c.least-i.result l.invariant.part c.least-i.ensures in
     omega (arith, few)
 
 pub bounds-blockers-i : goal.bounds-blockers-i
 bounds-blockers-i c =
     let few : c.least-i.result < word_bits =
-        let l = c.loop-rest in member_few _ l.rest c.least-i.result l.invariant.part c.least-i.ensures in
+    let l = c.loop-rest in member_few _ l.rest c.least-i.result l.invariant.part c.least-i.ensures in
     few
 
 pub overflow_shl-i : goal.overflow_shl-i
 overflow_shl-i c =
     let few : c.least-i.result < word_bits =
-        let l = c.loop-rest in member_few _ l.rest c.least-i.result l.invariant.part c.least-i.ensures in
+    let l = c.loop-rest in member_few _ l.rest c.least-i.result l.invariant.part c.least-i.ensures in
     few
 
 pub overflow_add-result : goal.overflow_add-result
 overflow_add-result c =
     let few : c.least-i.result < word_bits =
-        let l = c.loop-rest in member_few _ l.rest c.least-i.result l.invariant.part c.least-i.ensures in
+    let l = c.loop-rest in member_few _ l.rest c.least-i.result l.invariant.part c.least-i.ensures in
     omega (arith, few)
 
 pub returns-then-blockers-i-eq0 : goal.returns-then-blockers-i-eq0

@@ -15,14 +15,14 @@ returns-then-refused-ne0 c =
 pub order_checked-requires : goal.order_checked-requires
 order_checked-requires c =
     let passed : (let a = c.args in (list_refusal a.image.now a.table.now a.guards.now a.area.now a.list.now).number ≡ 0) =
-        number_of (sym c.list_refusal-refused.ensures) ∙ c.if-refused-ne0.false in
+    number_of (sym c.list_refusal-refused.ensures) ∙ c.if-refused-ne0.false in
     let a = c.args in
     list_ready a.image.now a.table.now a.guards.now a.area.now a.list.now passed _ c.count.ensures.0
 
 pub returns : goal.returns
 returns c =
     let passed : (let a = c.args in (list_refusal a.image.now a.table.now a.guards.now a.area.now a.list.now).number ≡ 0) =
-        number_of (sym c.list_refusal-refused.ensures) ∙ c.if-refused-ne0.false in
+    number_of (sym c.list_refusal-refused.ensures) ∙ c.if-refused-ne0.false in
     let a = c.args in
     order_done a.image.now a.table.now a.guards.now a.area.now a.list.now passed _ c.count.ensures.0 _ _
     c.order_checked.ensures

@@ -18,7 +18,7 @@ returns-then-refused-ne0 c = first_refuses _ c.step_refusal-refused.ensures c.if
 pub state-requires : goal.state-requires
 state-requires c =
     let shown : (let a = c.args in Checked a.image.now a.table.now a.area.now × (a.number < count_of a.image.now)) =
-        step_shows _ _ _ _ _ (number_of (sym c.step_refusal-refused.ensures) ∙ c.if-refused-ne0.false) in
+    step_shows _ _ _ _ _ (number_of (sym c.step_refusal-refused.ensures) ∙ c.if-refused-ne0.false) in
     let w = shown in program_lies _ _ _ w.0 _ w.1
 
 pub returns-then-state-ne-WAITING : goal.returns-then-state-ne-WAITING

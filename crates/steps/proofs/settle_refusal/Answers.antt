@@ -20,7 +20,7 @@ returns-then-refused-ne0 c = first_refuses _ c.step_refusal-refused.ensures c.if
 pub is_ready-requires : goal.is_ready-requires
 is_ready-requires c =
     let shown : (let a = c.args in Checked a.image.now a.table.now a.area.now × (a.number < count_of a.image.now)) =
-        step_shows _ _ _ _ _ (number_of (sym c.step_refusal-refused.ensures) ∙ c.if-refused-ne0.false) in
+    step_shows _ _ _ _ _ (number_of (sym c.step_refusal-refused.ensures) ∙ c.if-refused-ne0.false) in
     let w = shown in
     (measured _ _ _ w.0 _ c.count.ensures.0, omega (arith, w.1, c.count.ensures.0))
 
@@ -28,12 +28,12 @@ pub returns-then-not-is_ready : goal.returns-then-not-is_ready
 unfolding settle_refusal
 returns-then-not-is_ready c =
     let looked : (let a = c.args in c.is_ready.result ≡ is_ready (length a.table.now) (count_of a.image.now) a.number a.area.now) =
-        rw (← c.count.ensures.0) c.is_ready.ensures in
+    rw (← c.count.ensures.0) c.is_ready.ensures in
     first_passes c.step_refusal-refused.ensures c.if-refused-ne0.false (refuses _ looked (ap not c.if-not-is_ready.true))
 
 pub returns : goal.returns
 unfolding settle_refusal
 returns c =
     let looked : (let a = c.args in c.is_ready.result ≡ is_ready (length a.table.now) (count_of a.image.now) a.number a.area.now) =
-        rw (← c.count.ensures.0) c.is_ready.ensures in
+    rw (← c.count.ensures.0) c.is_ready.ensures in
     first_passes c.step_refusal-refused.ensures c.if-refused-ne0.false (accepts _ looked (ap not c.if-not-is_ready.false) refl)
