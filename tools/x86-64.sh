@@ -16,7 +16,7 @@ native() {
 kit_folder() {
     command -v rt >/dev/null || missing "rt (the Rattle kit)"
     local kit
-    kit=$(dirname "$(rt doc)")
+    kit=$(dirname "$(rt doc </dev/null)")
     [ -d "$kit/toolchain" ] || missing "the toolchain of the Rattle kit"
     echo "$kit"
 }
