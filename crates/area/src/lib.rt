@@ -1,5 +1,6 @@
 // The work area: where its words lie, its checks, and what its marks say (document 01, "The work area").
 #![tactic(auto)]
+
 ghost use Rattle.std.specs.Prelude.{◌≡◌, ◌+◌, ◌<◌, ◌≤◌, length};
 ghost use Rattle.base.specs.Words.{words};
 ghost use Rattle.base.specs.Masks.{mask_of};

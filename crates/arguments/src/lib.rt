@@ -1,6 +1,7 @@
 // The arguments of the programs `cells` and `guards` as words, and what is said of those that are none: one line, however long the argument and whatever its
 // bytes. All that differs between the two programs is told by the kind of their arguments.
 #![tactic(auto)]
+
 ghost use Rattle.std.specs.Prelude.{◌≡◌, ◌<◌, ◌≤◌, min, length, replicate, ◌==◌, slice_index};
 ghost use Rattle.text.specs.Decimal.{numeral};
 ghost use Rattle.text.specs.Filled.{texts};

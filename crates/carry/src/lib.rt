@@ -1,5 +1,6 @@
 // The next image: document 01, "Next image". The carried programs in number order, then the fresh image's programs, with the fresh image's rule byte.
 #![tactic(auto)]
+
 ghost use Rattle.std.specs.Prelude.{◌≡◌, ◌≤◌, length};
 ghost use Rattle.text.specs.Writing.{Wrote};
 ghost use Rattle.carry.specs.Next.{lent_refusal, size_refusal, NextSays};

@@ -1,5 +1,6 @@
 // Why a program was carried: the reason with its cause (document 02, ask 3).
 #![tactic(auto)]
+
 ghost use Rattle.std.specs.Prelude.{◌≡◌, ◌<◌};
 ghost use Rattle.image.specs.Image.{count_of};
 ghost use Rattle.area.specs.Checks.{Checked, Slotted};

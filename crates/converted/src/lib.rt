@@ -1,6 +1,7 @@
 // What the programs `to_image` and `to_sheet` print (document 02, ask 1): the image or the sheet, or the line of a refusal as the whole output. And what
 // `to_image` says beside it (ask 2): which line of the sheet is bad; of an image `refused` says it.
 #![tactic(auto)]
+
 ghost use Rattle.std.specs.Prelude.{◌≡◌, ◌+◌, ◌≤◌, length, replicate};
 ghost use Rattle.image.specs.Limits.{max_bytes};
 ghost use Rattle.from_image.specs.Longest.{longest_sheet};

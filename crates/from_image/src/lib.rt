@@ -1,5 +1,6 @@
 // The sheet of an image: document 02, ask 1.
 #![tactic(auto)]
+
 ghost use Rattle.std.specs.Prelude.{◌≡◌, true, [], ◌∷◌, ◌*◌, ◌<◌, ◌≤◌, length};
 ghost use Rattle.text.specs.Writing.{Wrote, Room};
 ghost use Rattle.image.specs.Limits.{max_instructions};

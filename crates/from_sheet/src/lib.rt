@@ -1,5 +1,6 @@
 // The image of a sheet: document 02, ask 1; and of one that has none, which of its lines is to be mended: ask 2.
 #![tactic(auto)]
+
 ghost use Rattle.std.specs.Prelude.{◌≡◌, length};
 ghost use Rattle.from_sheet.specs.FromSheet.{image_of_sheet, programs_of, programs_refusal, sheet_refusal, ImageOfSays};
 ghost use Rattle.from_sheet.specs.Passes.{Sized};

@@ -1,5 +1,6 @@
 // The listed order: document 01, "Listed order".
 #![tactic(auto)]
+
 ghost use Rattle.std.specs.Prelude.{◌≡◌, ◌++◌, ◌+◌, ◌*◌, ◌%◌, ◌^◌, ◌<◌, ◌≤◌, length, take, drop, replicate};
 ghost use Rattle.base.specs.Words.{first, words};
 ghost use Rattle.image.specs.Limits.{max_programs, max_cells};

@@ -3,7 +3,7 @@
 use Rattle.std.proofs.Common.{◌≡◌, ℕ, zero, suc, ◌+◌, ◌<◌, ◌≤◌, Bool, true, false, cond, ltb, List, [], ◌∷◌, length, get_or, sym, refl, ◌∙◌, add-zero, arith, length-set, ltb-true}
 use Rattle.base.specs.Words.{has}
 use Rattle.base.proofs.Numbers.{every_at}
-use Rattle.image.specs.Limits.{registers, max_program_bytes}
+use Rattle.image.specs.Limits.{max_program_bytes}
 use Rattle.image.specs.Instruction.{instructions_of, program_good}
 use Rattle.image.specs.Image.{count_of, refusal_of, part_of, code_good}
 use Rattle.image.proofs.Laws.{accepted, part_short, part_whole}

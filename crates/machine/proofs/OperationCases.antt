@@ -2,7 +2,7 @@
 -- Assumes nothing.
 use Rattle.std.proofs.Common.{◌≡◌, ℕ, List, [], ◌∷◌, ◌++◌, map, refl}
 use lib.ListN as lists
-use Rattle.image.specs.Assembler.{Instruction, instruction, end, set, load, store, add, sub, skipless, skipequal, reject, program}
+use Rattle.image.specs.Assembler.{Instruction, instruction, end, load, store, add, sub, skipless, skipequal, reject, program}
 use Rattle.machine.specs.declared.Machine.{Machine}
 use Rattle.machine.specs.declared.Run.TheVariants.{Finished, Rejected}
 use Rattle.machine.specs.Asks.{Ask, halt, move, fetch, put, start, ask_at}

@@ -1,5 +1,6 @@
 // The machine: eight registers and the place, the nine instructions, and the run of one program (document 01, "Instructions").
 #![tactic(auto)]
+
 ghost use Rattle.std.specs.Prelude.{◌≡◌, ◌+◌, ◌*◌, ◌<◌, ◌≤◌, length, ◌==◌, nat_lt};
 ghost use Rattle.image.specs.Limits.{registers, instruction_bytes, max_instructions, max_program_bytes};
 ghost use Rattle.guard.specs.Guards.{guard_words, admits};

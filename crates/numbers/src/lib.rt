@@ -1,5 +1,6 @@
 // The numbers of what gathering and settling answer (document 01, "What each refusal says") and of why a program was carried (document 02, ask 3).
 #![tactic(auto)]
+
 ghost use Rattle.steps.specs.Answers.{done_with, refused_by, numbers_of_gathered, numbers_of_settled};
 ghost use Rattle.causes.specs.Why.{numbers_for, numbers_of_why};
 ghost use Rattle.numbers.specs.Numbers.{Tells, CauseTells};

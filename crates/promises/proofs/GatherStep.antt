@@ -1,6 +1,6 @@
 -- Gathering one program more: the area of the gathered ones becomes that of the gathered ones and this one. Assumes nothing.
 use mathlib.Core.Path.{◌≡◌, refl, sym, ap, ◌∙◌}
-use mathlib.Core.Bool.{Bool, true, false}
+use mathlib.Core.Bool.{Bool, false}
 use mathlib.Core.List.{List}
 use Prim.Native.Nat.{ℕ, ◌<◌}
 use native.Mathlib.Decide.{ℕ_discrete}

@@ -7,7 +7,6 @@ use Prim.Native.Nat.{ℕ, ◌<◌}
 use native.Mathlib.Decide.{ℕ_discrete}
 use lib.ListN.{set}
 use Rattle.slot.specs.declared.ListKind.{ListKind}
-use Rattle.slot.specs.declared.ListKind.TheVariants.{Stores}
 use Rattle.slot.specs.Layout.{state_word, detail_word}
 use Rattle.slot.specs.Log.{Log, cells_of}
 use Rattle.slot.proofs.Slots.{layout_again}

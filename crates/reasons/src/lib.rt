@@ -1,6 +1,7 @@
 // The page of the program `why` (document 02, asks 3 and 5): why each program of a settled batch ended as it did. What is asked of the library stands here, what
 // is then said in `sentences`.
 #![tactic(auto)]
+
 ghost use Rattle.std.specs.Prelude.{◌≡◌, cond, ◌+◌, ◌≤◌, ◌<◌, length, get_or, replicate};
 ghost use Rattle.text.specs.Writing.{Wrote, Room};
 ghost use Rattle.image.specs.Limits.{max_programs, max_cells};

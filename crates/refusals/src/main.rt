@@ -2,6 +2,7 @@
 // and the number that came back; `refused_images` earns the rows about an image. Each line of the output is one call. The batch is the bench sheet's case 2, on
 // the cells x, y and z.
 #![tactic(auto)]
+
 ghost use Rattle.std.specs.Prelude.{◌≡◌, ◌<◌, ◌≤◌, length};
 ghost use Rattle.area.specs.Layout.{area_words, slot_start};
 

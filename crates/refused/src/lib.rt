@@ -1,5 +1,6 @@
 // What a program prints of a refusal: its line, and the place of a bad instruction in words.
 #![tactic(auto)]
+
 ghost use Rattle.std.specs.Prelude.{◌≡◌, [], ◌∷◌, ◌≤◌, length, replicate};
 ghost use Rattle.text.specs.Filled.{filled};
 ghost use Rattle.text.specs.Writing.{Wrote, Room, PageSays};

@@ -2,6 +2,7 @@
 // 61 to 64, and 8 of a program's number. Each line of the output is one call: what was asked and the number that came back, and of a bad instruction also
 // its program and its number there.
 #![tactic(auto)]
+
 ghost use Rattle.std.specs.Prelude.{◌≡◌, ◌<◌, ◌≤◌, length};
 
 // The good image's header, three programs of three instructions, and the whole.

@@ -2,6 +2,7 @@
 // 5): a batch is run from its input, and then a page is made of the image, the table, the guards and the area. Which instruction is bad, all of them say beside
 // it (ask 2).
 #![tactic(auto)]
+
 ghost use Rattle.std.specs.Prelude.{◌≡◌, ◌≤◌, ◌<◌, length};
 ghost use Rattle.text.specs.Writing.{Wrote, PageSays};
 ghost use Rattle.image.specs.Limits.{max_programs, max_cells};

@@ -1,6 +1,7 @@
 // The page of the program `batch` (document 01, "Bench sheet"): what came of each program of a settled batch, the listed order and the table, as text in
 // a buffer.
 #![tactic(auto)]
+
 ghost use Rattle.std.specs.Prelude.{◌≡◌, ◌≤◌, ◌<◌, length};
 ghost use Rattle.text.specs.Writing.{Room, Wrote};
 ghost use Rattle.text.specs.Filled.{texts};

@@ -1,6 +1,7 @@
 // What is said of a program that has ended (document 02, asks 3 and 5): a line that a script can read, and behind it why, in words. In each text a # is the
 // next of the numbers behind it.
 #![tactic(auto)]
+
 ghost use Rattle.std.specs.Prelude.{◌++◌};
 ghost use Rattle.text.specs.Filled.{filled};
 ghost use Rattle.text.specs.Writing.{Wrote, Room};

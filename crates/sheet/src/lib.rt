@@ -1,5 +1,6 @@
 // A sheet: document 02, ask 1. What its lines say, and how they are read.
 #![tactic(auto)]
+
 ghost use Rattle.std.specs.Prelude.{◌≡◌, ◌+◌, ◌<◌, ◌≤◌, length, take};
 ghost use Rattle.sheet.specs.Sheet.{operations, name_of, Named};
 

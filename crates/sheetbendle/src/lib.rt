@@ -15,6 +15,7 @@
 // `second_rule` says whether Rule 2 is in force; `of_gathered`, `of_settled` and `of_why` give the numbers of an answer.
 // Every call answers for every input. A refusal carries its number from document 01 and changes nothing that was lent; 0 is none.
 #![tactic(auto)]
+
 pub use area::area_words;
 pub use carry::{Next, next_image};
 pub use causes::{Before, Cause, Why, comes_before, why};

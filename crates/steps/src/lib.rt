@@ -1,5 +1,6 @@
 // Opening, gathering and settling: document 01, "The steps".
 #![tactic(auto)]
+
 ghost use Rattle.std.specs.Prelude.{◌≡◌, ◌<◌, length};
 ghost use Rattle.image.specs.Image.{count_of};
 ghost use Rattle.area.specs.Checks.{Checked, Paired, Measured, Slotted};

@@ -1,7 +1,6 @@
 -- The stored cells and their values are found in the slot; then the loop stores. Assumes nothing.
 use native.Mathlib.Omega.{arith}
 use Rattle.area.proofs.Places.{by_stores, stores_list}
-use borrow.Author.Rules.{rules}
 use Rattle.area.proofs.commit.Goals as goal
 
 pub store_all-requires : goal.store_all-requires

@@ -1,6 +1,5 @@
 -- The detail stands at its word of the slot. Assumes nothing.
 use Rattle.area.specs.Layout.{detail_of}
-use borrow.Author.Rules.{rules}
 use Rattle.area.proofs.detail.Goals as goal
 
 pub returns : goal.returns

@@ -1,7 +1,6 @@
 -- A count that passes lets the cells be looked at. Assumes nothing.
 use native.Mathlib.Omega.{arith}
 use Rattle.area.proofs.Places.{list_long, list_short, list_there}
-use borrow.Author.Rules.{rules}
 use Rattle.area.proofs.list_good.Goals as goal
 
 pub returns-then-s-gt-LIST : goal.returns-then-s-gt-LIST

@@ -1,7 +1,6 @@
 -- At each return the tests that led there are those of the definition. Assumes nothing.
 use mathlib.Core.Path.{sym, ◌∙◌}
-use borrow.Author.Tests.{lt-ltb, le-ltb, not-true, not-false}
-use borrow.Author.Rules.{rules}
+use borrow.Author.Tests.{lt-ltb, le-ltb}
 use Rattle.area.specs.Marks.{lower_cell}
 use Rattle.area.proofs.lower_cell.Goals as goal
 

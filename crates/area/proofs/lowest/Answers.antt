@@ -1,6 +1,5 @@
 -- The list and the marks are found by their kinds; then the loop looks for the lowest cell. Assumes nothing.
 use Rattle.area.proofs.LowestCells.{search_list, search_finds}
-use borrow.Author.Rules.{rules}
 use Rattle.area.proofs.lowest.Goals as goal
 
 pub lowest_of-requires : goal.lowest_of-requires

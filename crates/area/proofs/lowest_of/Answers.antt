@@ -1,11 +1,8 @@
 -- The loop's invariant: what has been found is the lowest of the cells passed so far. The measure is how many are left. Assumes nothing.
 use mathlib.Core.Path.{◌≡◌}
-use Prim.Native.Nat.{◌+◌, ◌-◌, ◌≤◌, ◌<◌}
+use Prim.Native.Nat.{◌+◌, ◌<◌}
 use native.Mathlib.Omega.{arith}
 use lib.ListN.{get_or}
-use borrow.Author.Rules.{rules}
-use Rattle.base.specs.Words.{words}
-use Rattle.area.specs.Marks.{lowest_of}
 use Rattle.area.proofs.LowestCells.{lowest_start, lowest_next}
 use Rattle.area.proofs.lowest_of.Goals as goal
 
@@ -15,7 +12,7 @@ loop-i-init c = let a = c.args in (omega arith, lowest_start a.cells a.marks a.a
 pub lower_cell-found-requires : goal.lower_cell-found-requires
 lower_cell-found-requires c =
     let there : (let a = c.args in a.marks + get_or a.area.now (a.at + c.loop-i.i) 0 < a.at) =
-        c.requires.names.before_at c.loop-i.i (omega arith) in
+    c.requires.names.before_at c.loop-i.i (omega arith) in
     omega (arith, there, c.requires.names.lies)
 
 pub loop-i-preserved : goal.loop-i-preserved

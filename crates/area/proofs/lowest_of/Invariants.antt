@@ -1,12 +1,8 @@
 -- The loop's invariant: what has been found is the lowest of the cells passed so far. The measure is how many are left. Assumes nothing.
 use mathlib.Core.Path.{◌≡◌}
-use Prim.Native.Nat.{◌+◌, ◌-◌, ◌≤◌, ◌<◌}
-use native.Mathlib.Omega.{arith}
-use lib.ListN.{get_or}
-use borrow.Author.Rules.{rules}
+use Prim.Native.Nat.{◌≤◌}
 use Rattle.base.specs.Words.{words}
 use Rattle.area.specs.Marks.{lowest_of}
-use Rattle.area.proofs.LowestCells.{lowest_start, lowest_next}
 use Rattle.area.proofs.lowest_of.Given as goal
 
 abbrev pub invariant-loop-i : goal.invariant-loop-i

@@ -1,9 +1,6 @@
 -- The loop's invariant: the mask has the programs passed that are in the group. The measure is how many are left. Assumes nothing.
 use mathlib.Core.Path.{◌≡◌, sym, ap, ◌∙◌}
-use Prim.Native.Nat.{◌-◌, ◌≤◌}
 use native.Mathlib.Omega.{arith}
-use borrow.Author.Rules.{rules}
-use Rattle.base.specs.Masks.{mask_of}
 use Rattle.base.proofs.Masks.{mask_lt, mask_next, mask_start}
 use Rattle.slot.specs.States.{is_in}
 use Rattle.area.specs.Layout.{in_group}

@@ -4,7 +4,6 @@ use native.Mathlib.Omega.{arith}
 use Rattle.image.proofs.Refusing.{first_refuses, first_passes, number_of}
 use Rattle.area.specs.Checks.{open_refusal}
 use Rattle.area.proofs.Checks.{few}
-use borrow.Author.Rules.{rules}
 use Rattle.area.proofs.open_refusal.Goals as goal
 
 pub returns-then-refused-ne0 : goal.returns-then-refused-ne0

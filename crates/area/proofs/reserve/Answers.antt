@@ -1,7 +1,6 @@
 -- The list and the marks are found by their kinds; then the loop reserves. Assumes nothing.
 use Rattle.area.specs.Marks.{reserve}
 use Rattle.area.proofs.Places.{by_span, names_list}
-use borrow.Author.Rules.{rules}
 use Rattle.area.proofs.reserve.Goals as goal
 
 pub reserve_cells-requires : goal.reserve_cells-requires

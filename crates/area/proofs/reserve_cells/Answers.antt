@@ -1,10 +1,9 @@
 -- The loop's invariant: reserving the cells that are left, in the area as it is, gives the whole, and the list stays as it was. The measure is how
 -- many cells are left. Assumes nothing.
-use Prim.Native.Nat.{◌+◌, ◌-◌, ◌<◌}
+use Prim.Native.Nat.{◌+◌, ◌<◌}
 use native.Mathlib.Omega.{arith}
 use lib.ListN.{get_or}
-use borrow.Author.Rules.{rules}
-use Rattle.area.proofs.Loops.{Reserving, reserving_start, mark_there, reserving_next, reserving_end}
+use Rattle.area.proofs.Loops.{reserving_start, mark_there, reserving_next, reserving_end}
 use Rattle.area.proofs.reserve_cells.Goals as goal
 
 pub loop-i-init : goal.loop-i-init
@@ -13,37 +12,37 @@ loop-i-init c = reserving_start _ _ _ _ _
 pub overflow_add-m : goal.overflow_add-m
 overflow_add-m c =
     let there : (let a = c.args in a.marks + get_or c.loop-i.area (a.at + c.loop-i.i) 0 < a.at) =
-        mark_there _ _ _ _ _ c.requires.0 _ _ c.loop-i.invariant c.loop-i-test.true in
+    mark_there _ _ _ _ _ c.requires.0 _ _ c.loop-i.invariant c.loop-i-test.true in
     omega (arith, there)
 
 pub offset_bounds-area-marks : goal.offset_bounds-area-marks
 offset_bounds-area-marks c =
     let there : (let a = c.args in a.marks + get_or c.loop-i.area (a.at + c.loop-i.i) 0 < a.at) =
-        mark_there _ _ _ _ _ c.requires.0 _ _ c.loop-i.invariant c.loop-i-test.true in
+    mark_there _ _ _ _ _ c.requires.0 _ _ c.loop-i.invariant c.loop-i-test.true in
     omega (arith, there)
 
 pub bounds-area-marks : goal.bounds-area-marks
 bounds-area-marks c =
     let there : (let a = c.args in a.marks + get_or c.loop-i.area (a.at + c.loop-i.i) 0 < a.at) =
-        mark_there _ _ _ _ _ c.requires.0 _ _ c.loop-i.invariant c.loop-i-test.true in
+    mark_there _ _ _ _ _ c.requires.0 _ _ c.loop-i.invariant c.loop-i-test.true in
     omega (arith, there)
 
 pub overflow_add-area : goal.overflow_add-area
 overflow_add-area c =
     let there : (let a = c.args in a.marks + get_or c.loop-i.area (a.at + c.loop-i.i) 0 < a.at) =
-        mark_there _ _ _ _ _ c.requires.0 _ _ c.loop-i.invariant c.loop-i-test.true in
+    mark_there _ _ _ _ _ c.requires.0 _ _ c.loop-i.invariant c.loop-i-test.true in
     omega (arith, there)
 
 pub offset_bounds-area-marks-in-loop-i : goal.offset_bounds-area-marks-in-loop-i
 offset_bounds-area-marks-in-loop-i c =
     let there : (let a = c.args in a.marks + get_or c.loop-i.area (a.at + c.loop-i.i) 0 < a.at) =
-        mark_there _ _ _ _ _ c.requires.0 _ _ c.loop-i.invariant c.loop-i-test.true in
+    mark_there _ _ _ _ _ c.requires.0 _ _ c.loop-i.invariant c.loop-i-test.true in
     omega (arith, there)
 
 pub bounds-area-marks-in-loop-i : goal.bounds-area-marks-in-loop-i
 bounds-area-marks-in-loop-i c =
     let there : (let a = c.args in a.marks + get_or c.loop-i.area (a.at + c.loop-i.i) 0 < a.at) =
-        mark_there _ _ _ _ _ c.requires.0 _ _ c.loop-i.invariant c.loop-i-test.true in
+    mark_there _ _ _ _ _ c.requires.0 _ _ c.loop-i.invariant c.loop-i-test.true in
     omega (arith, there)
 
 pub loop-i-preserved : goal.loop-i-preserved

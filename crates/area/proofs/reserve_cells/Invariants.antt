@@ -1,10 +1,7 @@
 -- The loop's invariant: reserving the cells that are left, in the area as it is, gives the whole, and the list stays as it was. The measure is how
 -- many cells are left. Assumes nothing.
-use Prim.Native.Nat.{◌+◌, ◌-◌, ◌<◌}
-use native.Mathlib.Omega.{arith}
-use lib.ListN.{get_or}
-use borrow.Author.Rules.{rules}
-use Rattle.area.proofs.Loops.{Reserving, reserving_start, mark_there, reserving_next, reserving_end}
+use Prim.Native.Nat.{◌-◌}
+use Rattle.area.proofs.Loops.{Reserving}
 use Rattle.area.proofs.reserve_cells.Given as goal
 
 abbrev pub invariant-loop-i : goal.invariant-loop-i

@@ -1,14 +1,9 @@
 -- The loop's invariant: each slot passed is good. The measure is how many are left. Assumes nothing.
-use mathlib.Core.Path.{◌≡◌, sym, ◌∙◌}
+use mathlib.Core.Path.{◌≡◌}
 use mathlib.Core.Bool.{true}
-use Prim.Native.Nat.{◌-◌, ◌≤◌}
-use native.Mathlib.Omega.{arith}
-use borrow.Author.Rules.{rules}
-use borrow.Author.Tests.{not-true, not-false}
+use Prim.Native.Nat.{◌≤◌}
 use Rattle.base.specs.Words.{every}
-use Rattle.base.proofs.Numbers.{every_none, every_more, every_false}
-use Rattle.area.specs.Checks.{slot_good, slots_good}
-use Rattle.area.proofs.Checks.{measured_lies}
+use Rattle.area.specs.Checks.{slot_good}
 use Rattle.area.proofs.slots_good.Given as goal
 
 abbrev pub invariant-loop-k : goal.invariant-loop-k

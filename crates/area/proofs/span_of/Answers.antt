@@ -3,7 +3,6 @@ use Prim.Native.Nat.{◌+◌, ◌<◌}
 use lib.ListN.{length}
 use native.Mathlib.Omega.{arith}
 use Rattle.slot.proofs.ListKinds.{count_low, list_lies}
-use borrow.Author.Rules.{rules}
 use Rattle.area.proofs.span_of.Goals as goal
 
 pub overflow_add-counted : goal.overflow_add-counted
@@ -15,13 +14,13 @@ overflow_add-at c = omega (arith, c.requires.lies, c.slot_start-start.ensures, c
 pub offset_bounds-area-counted : goal.offset_bounds-area-counted
 offset_bounds-area-counted c =
     let counted-in : c.slot_start-start.result + c.count_word.result < length c.args.area.now =
-        omega (arith, c.requires.lies, c.slot_start-start.ensures, c.count_word.ensures, (count_low c.args.list).1) in
+    omega (arith, c.requires.lies, c.slot_start-start.ensures, c.count_word.ensures, (count_low c.args.list).1) in
     omega (arith, counted-in)
 
 pub bounds-area-counted : goal.bounds-area-counted
 bounds-area-counted c =
     let counted-in : c.slot_start-start.result + c.count_word.result < length c.args.area.now =
-        omega (arith, c.requires.lies, c.slot_start-start.ensures, c.count_word.ensures, (count_low c.args.list).1) in
+    omega (arith, c.requires.lies, c.slot_start-start.ensures, c.count_word.ensures, (count_low c.args.list).1) in
     counted-in
 
 pub returns : goal.returns

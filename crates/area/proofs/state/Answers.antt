@@ -1,6 +1,5 @@
 -- The slot begins with the state. Assumes nothing.
 use Rattle.area.specs.Layout.{state_of}
-use borrow.Author.Rules.{rules}
 use Rattle.area.proofs.state.Goals as goal
 
 pub returns : goal.returns

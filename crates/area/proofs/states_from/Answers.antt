@@ -1,12 +1,9 @@
 -- The loop's invariant: no state passed is below the least. The measure is how many are left. Assumes nothing.
 use mathlib.Core.Path.{◌≡◌, sym}
-use mathlib.Core.Bool.{true}
-use Prim.Native.Nat.{◌-◌, ◌≤◌, ◌<◌}
+use Prim.Native.Nat.{◌≤◌, ◌<◌}
 use native.Mathlib.Omega.{arith}
-use lib.Dec.{leb}
 use borrow.Author.Rules.{rules}
 use borrow.Author.Tests.{le-leb, lt-leb}
-use Rattle.base.specs.Words.{every}
 use Rattle.base.proofs.Numbers.{every_none, every_more, every_false}
 use Rattle.area.specs.Layout.{state_of}
 use Rattle.area.specs.Checks.{states_from}

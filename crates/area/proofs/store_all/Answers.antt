@@ -1,13 +1,9 @@
 -- The loop's invariant: the stores that are left, done on the table as it is, give the whole. The measure is how many are left. Assumes nothing.
-use mathlib.Core.Path.{◌≡◌, refl}
-use Prim.Native.Nat.{◌+◌, ◌-◌, ◌≤◌}
+use mathlib.Core.Path.{refl}
 use native.Mathlib.Omega.{arith}
-use lib.ListN.{length, length-set}
-use borrow.Author.Rules.{rules}
-use Rattle.base.specs.Words.{words}
+use lib.ListN.{length-set}
 use Rattle.base.proofs.Walks.{words_start}
-use Rattle.area.specs.Marks.{store_all}
-use Rattle.area.proofs.Loops.{left, storing_next, storing_end}
+use Rattle.area.proofs.Loops.{storing_next, storing_end}
 use Rattle.area.proofs.store_all.Goals as goal
 
 pub loop-i-init : goal.loop-i-init

@@ -1,13 +1,10 @@
 -- The loop's invariant: the stores that are left, done on the table as it is, give the whole. The measure is how many are left. Assumes nothing.
-use mathlib.Core.Path.{◌≡◌, refl}
-use Prim.Native.Nat.{◌+◌, ◌-◌, ◌≤◌}
-use native.Mathlib.Omega.{arith}
-use lib.ListN.{length, length-set}
-use borrow.Author.Rules.{rules}
+use mathlib.Core.Path.{◌≡◌}
+use Prim.Native.Nat.{◌-◌, ◌≤◌}
+use lib.ListN.{length}
 use Rattle.base.specs.Words.{words}
-use Rattle.base.proofs.Walks.{words_start}
 use Rattle.area.specs.Marks.{store_all}
-use Rattle.area.proofs.Loops.{left, storing_next, storing_end}
+use Rattle.area.proofs.Loops.{left}
 use Rattle.area.proofs.store_all.Given as goal
 
 abbrev pub invariant-loop-i : goal.invariant-loop-i

@@ -2,7 +2,6 @@
 use native.Mathlib.Omega.{arith}
 use lib.ListN.{length-set}
 use Rattle.area.specs.Layout.{with_state}
-use borrow.Author.Rules.{rules}
 use Rattle.area.proofs.write_state.Goals as goal
 
 pub bounds-area-at-2 : goal.bounds-area-at-2

@@ -1,5 +1,4 @@
 -- The text with its numbers, and behind it the argument. Assumes nothing.
-use Rattle.std.proofs.Common.{rules}
 use Rattle.text.proofs.Writing.{page_says, room_first, room_then, wrote_both}
 use Rattle.arguments.specs.Words.{about}
 use Rattle.arguments.proofs.put_about.Goals as goal

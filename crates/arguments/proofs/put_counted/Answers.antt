@@ -1,5 +1,4 @@
 -- The number, and the noun behind it. Assumes nothing.
-use Rattle.std.proofs.Common.{rules}
 use Rattle.text.proofs.Writing.{room_first, room_then, wrote_both}
 use Rattle.arguments.specs.Words.{counted}
 use Rattle.arguments.proofs.put_counted.Goals as goal

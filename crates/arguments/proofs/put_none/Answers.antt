@@ -1,5 +1,4 @@
 -- In each arm the kind is that one: the text is the definition's, and its numbers are the limits. Assumes nothing.
-use Rattle.std.proofs.Common.{rules}
 use Rattle.arguments.specs.declared.Kind.TheVariants.{Cells, Ends}
 use Rattle.arguments.specs.Words.{none_words}
 use Rattle.text.proofs.Writing.{page_says}

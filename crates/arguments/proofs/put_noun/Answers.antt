@@ -1,5 +1,5 @@
 -- In each arm the kind is that one. Assumes nothing.
-use Rattle.std.proofs.Common.{subst, rules}
+use Rattle.std.proofs.Common.{subst}
 use Rattle.text.specs.Writing.{Room}
 use Rattle.arguments.specs.declared.Kind.{Kind}
 use Rattle.arguments.specs.Words.{noun}

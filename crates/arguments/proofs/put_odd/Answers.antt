@@ -1,5 +1,4 @@
 -- The text is the definition's, and its number the cell's. Assumes nothing.
-use Rattle.std.proofs.Common.{rules}
 use Rattle.text.proofs.Writing.{page_says}
 use Rattle.arguments.specs.Words.{odd_words}
 use Rattle.arguments.proofs.Said.{odd_room}

@@ -1,9 +1,7 @@
 -- The loop's invariant: the bytes below k stand there as they are shown. The measure is what is left of them. Assumes nothing.
-use Rattle.std.proofs.Common.{◌≡◌, ◌-◌, ◌≤◌, arith, rules}
+use Rattle.std.proofs.Common.{◌≤◌}
 use Rattle.text.specs.Filled.{texts}
 use Rattle.text.specs.Writing.{Wrote}
-use Rattle.text.proofs.Writing.{wrote_none}
-use Rattle.text.proofs.Fillings.{texts_none, text_room, text_turn}
 use Rattle.arguments.specs.Words.{byte_of}
 use Rattle.arguments.proofs.put_shown_bytes.Given as goal
 

@@ -1,5 +1,5 @@
 -- The bytes that are shown, and behind them whether there are more. Assumes nothing.
-use Rattle.std.proofs.Common.{arith, rules}
+use Rattle.std.proofs.Common.{arith}
 use Rattle.text.proofs.Writing.{room_then, wrote_both}
 use Rattle.arguments.proofs.Said.{word_begins, word_whole, word_cut}
 use Rattle.arguments.proofs.put_word.Goals as goal

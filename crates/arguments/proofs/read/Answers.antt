@@ -1,5 +1,5 @@
 -- A minus stands before the number or not; where one does there is a byte to leave out. Assumes nothing.
-use Rattle.std.proofs.Common.{sym, ◌∙◌, rules}
+use Rattle.std.proofs.Common.{sym, ◌∙◌}
 use Rattle.arguments.proofs.Readings.{negative_long, read_behind, read_other}
 use Rattle.arguments.proofs.read.Goals as goal
 

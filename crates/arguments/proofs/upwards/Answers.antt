@@ -1,5 +1,5 @@
 -- Each arm is a case of the definition, and what was matched says which. Assumes nothing.
-use Rattle.std.proofs.Common.{sym, ◌∙◌, rules}
+use Rattle.std.proofs.Common.{sym, ◌∙◌}
 use Rattle.arguments.specs.Readings.{upwards}
 use Rattle.arguments.proofs.upwards.Goals as goal
 

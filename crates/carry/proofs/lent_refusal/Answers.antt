@@ -1,7 +1,6 @@
 -- Checks 1 to 7 and 9 come first, then those of the fresh image. Assumes nothing.
 use Rattle.image.proofs.Refusing.{first_refuses, first_passes}
 use Rattle.carry.specs.Next.{lent_refusal}
-use borrow.Author.Rules.{rules}
 use Rattle.carry.proofs.lent_refusal.Goals as goal
 
 pub returns-then-refused-ne0 : goal.returns-then-refused-ne0

@@ -3,7 +3,6 @@
 use mathlib.Core.Path.{◌≡◌, sym, ◌∙◌}
 use Prim.Native.Nat.{◌+◌}
 use native.Mathlib.Omega.{arith}
-use borrow.Author.Rules.{rules}
 use Rattle.image.proofs.Refusing.{first_refuses, number_of}
 use Rattle.area.proofs.Checks.{measured}
 use Rattle.carry.specs.Next.{lent_refusal, next_refusal}

@@ -1,6 +1,5 @@
 -- Header and offsets have as many bytes as the count says, and the programs of both sources have theirs. Assumes nothing.
 use native.Mathlib.Omega.{arith}
-use borrow.Author.Rules.{rules}
 use Rattle.carry.proofs.Sources.{all_source, from_length}
 use Rattle.carry.proofs.next_length.Goals as goal
 

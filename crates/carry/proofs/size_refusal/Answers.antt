@@ -1,13 +1,11 @@
 -- 11 first, then 10. Assumes nothing.
 use mathlib.Core.Path.{refl}
-use mathlib.Core.List.{List}
-use Prim.Native.Nat.{ℕ, ◌≤◌, ◌<◌}
+use Prim.Native.Nat.{◌≤◌, ◌<◌}
 use lib.ListN.{length}
 use borrow.Author.Tests.{le-leb, lt-leb}
 use Rattle.image.proofs.Refusing.{fails, goes_on}
 use Rattle.carry.specs.Next.{size_refusal}
 use Rattle.carry.specs.Sources.{image_from}
-use borrow.Author.Rules.{rules}
 use Rattle.carry.proofs.size_refusal.Goals as goal
 
 pub returns-then-programs-gt-PROGRAMS : goal.returns-then-programs-gt-PROGRAMS

@@ -8,7 +8,6 @@ use Rattle.area.specs.Checks.{all_ended}
 use Rattle.area.proofs.Checks.{measured}
 use Rattle.steps.proofs.Refusals.{step_shows}
 use Rattle.causes.specs.Why.{ask_refusal}
-use borrow.Author.Rules.{rules}
 use Rattle.causes.proofs.ask_refusal.Goals as goal
 
 pub returns-then-refused-ne0 : goal.returns-then-refused-ne0

@@ -3,7 +3,6 @@ use Prim.Native.Nat.{◌≤◌, ◌<◌}
 use mathlib.Core.Path.{ap, ◌∙◌}
 use native.Mathlib.Omega.{arith}
 use borrow.Author.Tests.{lt-ltb, le-ltb}
-use borrow.Author.Rules.{rules}
 use Rattle.slot.specs.declared.ListKind.TheVariants.{Reads}
 use Rattle.area.specs.declared.MarkKind.TheVariants.{Write}
 use Rattle.area.specs.Marks.{lowest}

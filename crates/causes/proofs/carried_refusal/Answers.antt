@@ -10,7 +10,6 @@ use Rattle.area.specs.Layout.{state_of, in_group}
 use Rattle.area.proofs.Checks.{program_lies}
 use Rattle.causes.specs.Why.{carried_refusal}
 use Rattle.causes.proofs.Refusals.{ask_shows}
-use borrow.Author.Rules.{rules}
 use Rattle.causes.proofs.carried_refusal.Goals as goal
 
 -- the test of the state that was looked at is that of the program

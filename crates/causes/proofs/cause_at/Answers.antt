@@ -1,5 +1,4 @@
 -- The cell's mark is found by its kind, and names somebody. Assumes nothing.
-use borrow.Author.Rules.{rules}
 use Rattle.causes.proofs.cause_at.Goals as goal
 
 pub named-program-requires : goal.named-program-requires

@@ -1,6 +1,5 @@
 -- The refusal is that of checks 1 to 9; where there is none, they have shown what the inner function needs. Assumes nothing.
 use mathlib.Core.Path.{sym, ◌∙◌}
-use borrow.Author.Rules.{rules}
 use Rattle.image.proofs.Refusing.{number_of}
 use Rattle.area.proofs.Checks.{program_slotted}
 use Rattle.causes.proofs.Refusals.{ask_shows}

@@ -1,6 +1,5 @@
 -- The refusal is that of the checks up to 13; where there is none, they have shown what the inner function needs. Assumes nothing.
 use mathlib.Core.Path.{sym, ◌∙◌}
-use borrow.Author.Rules.{rules}
 use Rattle.image.proofs.Refusing.{number_of}
 use Rattle.causes.proofs.Refusals.{carried_shows}
 use Rattle.causes.proofs.Says.{why_refused, why_done}

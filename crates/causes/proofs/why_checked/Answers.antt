@@ -1,6 +1,5 @@
 -- The decision is settling's; its number is compared with the detail, and then its cells show the cause. Assumes nothing.
 use mathlib.Core.Path.{◌≡◌, sym, ap, ◌∙◌}
-use borrow.Author.Rules.{rules}
 use Rattle.area.proofs.Checks.{program_slotted}
 use Rattle.steps.specs.declared.Settled.{Settled}
 use Rattle.steps.specs.Answers.{numbers_of_settled}

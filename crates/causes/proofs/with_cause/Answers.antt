@@ -2,7 +2,6 @@
 use mathlib.Core.Path.{◌≡◌, ap}
 use mathlib.Core.List.{List}
 use Prim.Native.Nat.{ℕ}
-use borrow.Author.Rules.{rules}
 use Rattle.steps.specs.declared.Verdict.{Verdict}
 use Rattle.causes.specs.declared.answers.Why.TheVariants as why
 use Rattle.causes.specs.Why.{told_by, NamesAll}

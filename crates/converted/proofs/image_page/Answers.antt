@@ -4,7 +4,6 @@ use mathlib.Core.List.{List}
 use Prim.Native.Nat.{ℕ, ◌≤◌, ◌<◌}
 use native.Mathlib.Omega.{arith}
 use lib.ListN.{length}
-use borrow.Author.Rules.{rules}
 use Rattle.image.specs.Limits.{max_bytes}
 use Rattle.sheet.specs.declared.Written.{Written}
 use Rattle.from_sheet.specs.FromSheet.{ImageOfSays}

@@ -1,5 +1,4 @@
 -- The image's refusal is told, or its sheet, which has room. Assumes nothing.
-use borrow.Author.Rules.{rules}
 use Rattle.converted.proofs.Pages.{image_refused_room, image_refused, sheet_room, sheet_done}
 use Rattle.converted.proofs.sheet_page.Goals as goal
 

@@ -3,7 +3,6 @@ use mathlib.Core.Path.{◌≡◌, sym, ◌∙◌}
 use mathlib.Core.Bool.{true}
 use native.Mathlib.Omega.{arith}
 use borrow.Author.Rules.{rules}
-use borrow.Author.Tests.{not-true, not-false}
 use Rattle.text.proofs.Writing.{page_says}
 use Rattle.image.specs.Refusals.{says_where}
 use Rattle.refused.proofs.Wheres.{where_at_short}
@@ -16,7 +15,7 @@ returns-then-not-says_where c = nothing_said _ c.sheet_refusal-refusal.ensures _
 pub wrong_line-wrong-requires : goal.wrong_line-wrong-requires
 wrong_line-wrong-requires c =
     let says : says_where c.sheet_refusal-refusal.result.number ≡ true =
-        sym c.says_where.ensures ∙ c.if-not-says_where.false in
+    sym c.says_where.ensures ∙ c.if-not-says_where.false in
     instruction_stands _ c.sheet_refusal-refusal.ensures says
 
 pub put_where_at-requires : goal.put_where_at-requires
@@ -28,5 +27,5 @@ put_where_at-requires c =
 pub returns : goal.returns
 returns c =
     let says : says_where c.sheet_refusal-refusal.result.number ≡ true =
-        sym c.says_where.ensures ∙ c.if-not-says_where.false in
+    sym c.says_where.ensures ∙ c.if-not-says_where.false in
     rw (said_is _ c.sheet_refusal-refusal.ensures says c.wrong_line-wrong.ensures) (page_says c.put_where_at.ensures)

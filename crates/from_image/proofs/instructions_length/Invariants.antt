@@ -1,15 +1,11 @@
 -- The loop's invariant: `size` is the length of the lines below i, each of which is short. The measure is what is left of them.
 -- Assumes nothing.
-use mathlib.Core.Path.{◌≡◌, ap}
-use Prim.Native.Nat.{◌*◌, ◌≤◌, ◌-◌}
-use native.Mathlib.Omega.{arith}
+use mathlib.Core.Path.{◌≡◌}
+use Prim.Native.Nat.{◌*◌, ◌≤◌}
 use lib.ListN.{length}
-use borrow.Author.Rules.{rules}
 use Rattle.text.specs.Filled.{texts}
-use Rattle.text.proofs.Fillings.{texts_none, length_texts}
-use Rattle.image.specs.Instruction.{instructions_of}
 use Rattle.from_image.specs.Typing.{most_line}
-use Rattle.from_image.proofs.Sheets.{instruction_text, first_texts, named_at}
+use Rattle.from_image.proofs.Sheets.{instruction_text}
 use Rattle.from_image.proofs.instructions_length.Given as goal
 
 abbrev pub invariant-loop-i : goal.invariant-loop-i

@@ -1,6 +1,5 @@
 -- The name says how many bytes it has. Assumes nothing.
 use native.Mathlib.Omega.{arith}
-use borrow.Author.Rules.{rules}
 use Rattle.from_image.proofs.Lines.{name_length, name_short}
 use Rattle.from_image.proofs.name_length.Goals as goal
 

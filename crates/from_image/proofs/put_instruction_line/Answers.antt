@@ -1,5 +1,4 @@
 -- The name, and behind it the text with the three bytes in it. Assumes nothing.
-use borrow.Author.Rules.{rules}
 use mathlib.Core.List.{List, [], ◌∷◌}
 use Prim.Native.Nat.{ℕ}
 use Rattle.text.specs.Ascii.{ascii}

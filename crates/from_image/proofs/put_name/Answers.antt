@@ -1,5 +1,4 @@
 -- The name is the part of its bytes that is written. Assumes nothing.
-use borrow.Author.Rules.{rules}
 use Rattle.from_image.proofs.Lines.{name_part}
 use Rattle.from_image.proofs.put_name.Goals as goal
 

@@ -1,5 +1,4 @@
 -- The bytes are the line. Assumes nothing.
-use borrow.Author.Rules.{rules}
 use Rattle.sheet.specs.Sheet.{line_text, sheet_text}
 use Rattle.from_image.proofs.put_program_line.Goals as goal
 

@@ -1,5 +1,4 @@
 -- The text with the rule byte in it is the line. Assumes nothing.
-use borrow.Author.Rules.{rules}
 use Rattle.from_image.proofs.Lines.{rule_line_lem}
 use Rattle.from_image.proofs.put_rule_line.Goals as goal
 

@@ -1,6 +1,5 @@
 -- The sheet is the rule's line and the programs' lines. Assumes nothing.
 use native.Mathlib.Omega.{arith}
-use borrow.Author.Rules.{rules}
 use Rattle.text.proofs.Decimals.{decimal_short}
 use Rattle.from_image.proofs.Sheets.{length_sheet_of, good_programs}
 use Rattle.from_image.proofs.sheet_length.Goals as goal

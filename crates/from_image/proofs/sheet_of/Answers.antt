@@ -1,6 +1,5 @@
 -- A refusal is answered and the output is left; otherwise the checks have shown what `write_sheet` needs, and its length is the answer.
 -- Assumes nothing.
-use borrow.Author.Rules.{rules}
 use Rattle.from_image.proofs.Checks.{sheet_shows, sheet_refused_lem, sheet_done}
 use Rattle.from_image.proofs.sheet_of.Goals as goal
 

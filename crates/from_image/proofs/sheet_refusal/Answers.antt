@@ -1,9 +1,7 @@
 -- The image's refusal first, then 10. Assumes nothing.
 use mathlib.Core.Path.{refl, sym, ◌∙◌}
-use mathlib.Core.List.{List}
-use Prim.Native.Nat.{ℕ, ◌≤◌, ◌<◌}
+use Prim.Native.Nat.{◌≤◌, ◌<◌}
 use lib.ListN.{length}
-use borrow.Author.Rules.{rules}
 use borrow.Author.Tests.{le-leb, lt-leb}
 use Rattle.image.proofs.Refusing.{fails, goes_on, number_of, first_refuses, first_passes}
 use Rattle.from_image.specs.FromImage.{sheet_of_image, sheet_of_refusal}

@@ -3,7 +3,6 @@ use mathlib.Core.Path.{refl}
 use mathlib.Core.Bool.{true}
 use mathlib.Core.List.{List, [], ◌∷◌, ◌++◌}
 use Prim.Native.Nat.{ℕ}
-use borrow.Author.Rules.{rules}
 use Rattle.text.specs.Writing.{Room}
 use Rattle.text.proofs.Writing.{room_first, room_then, wrote_both}
 use Rattle.image.specs.Image.{count_of}
@@ -28,12 +27,12 @@ put_rule_line-to-requires c =
 pub put_programs-requires : goal.put_programs-requires
 put_programs-requires c =
     let room : Room c.args.out.now 0 (head c.rule.result ++ rest c.args.image.now c.count.result) =
-        rw (sheet_text_lem c.args.image.now c.count.ensures.0 c.rule.ensures) at c.requires.1 in
+    rw (sheet_text_lem c.args.image.now c.count.ensures.0 c.rule.ensures) at c.requires.1 in
     (good_programs c.args.image.now c.count.ensures.0 c.requires.0, room_then (head c.rule.result) (rest c.args.image.now c.count.result) room c.put_rule_line-to.ensures)
 
 pub returns : goal.returns
 returns c =
     let room : Room c.args.out.now 0 (head c.rule.result ++ rest c.args.image.now c.count.result) =
-        rw (sheet_text_lem c.args.image.now c.count.ensures.0 c.rule.ensures) at c.requires.1 in
+    rw (sheet_text_lem c.args.image.now c.count.ensures.0 c.rule.ensures) at c.requires.1 in
     rw (sheet_text_lem c.args.image.now c.count.ensures.0 c.rule.ensures)
     (wrote_both (head c.rule.result) (rest c.args.image.now c.count.result) room c.put_rule_line-to.ensures c.put_programs.ensures)

@@ -16,22 +16,22 @@ pub returns-then-sizes-gt-INSTRUCTIONS : goal.returns-then-sizes-gt-INSTRUCTIONS
 unfolding programs_refusal
 returns-then-sizes-gt-INSTRUCTIONS c =
     let are-few : few_programs (programs_of c.args.sheet.now) ≡ true =
-        sym (few_are c.requires) ∙ le-leb c.args.sizes.programs max_programs c.if-sizes-gt-PROGRAMS.false in
+    sym (few_are c.requires) ∙ le-leb c.args.sizes.programs max_programs c.if-sizes-gt-PROGRAMS.false in
     goes_on _ are-few (fails _ (sym (short_are c.requires) ∙ lt-leb c.args.sizes.longest max_instructions c.if-sizes-gt-INSTRUCTIONS.true))
 
 pub code_fault-requires : goal.code_fault-requires
 code_fault-requires c =
     let are-few : few_programs (programs_of c.args.sheet.now) ≡ true =
-        sym (few_are c.requires) ∙ le-leb c.args.sizes.programs max_programs c.if-sizes-gt-PROGRAMS.false in
+    sym (few_are c.requires) ∙ le-leb c.args.sizes.programs max_programs c.if-sizes-gt-PROGRAMS.false in
     let are-short : short_programs (programs_of c.args.sheet.now) ≡ true =
-        sym (short_are c.requires) ∙ le-leb c.args.sizes.longest max_instructions c.if-sizes-gt-INSTRUCTIONS.false in
+    sym (short_are c.requires) ∙ le-leb c.args.sizes.longest max_instructions c.if-sizes-gt-INSTRUCTIONS.false in
     readable c.requires are-few are-short
 
 pub returns : goal.returns
 unfolding programs_refusal
 returns c =
     let are-few : few_programs (programs_of c.args.sheet.now) ≡ true =
-        sym (few_are c.requires) ∙ le-leb c.args.sizes.programs max_programs c.if-sizes-gt-PROGRAMS.false in
+    sym (few_are c.requires) ∙ le-leb c.args.sizes.programs max_programs c.if-sizes-gt-PROGRAMS.false in
     let are-short : short_programs (programs_of c.args.sheet.now) ≡ true =
-        sym (short_are c.requires) ∙ le-leb c.args.sizes.longest max_instructions c.if-sizes-gt-INSTRUCTIONS.false in
+    sym (short_are c.requires) ∙ le-leb c.args.sizes.longest max_instructions c.if-sizes-gt-INSTRUCTIONS.false in
     goes_on _ are-few (goes_on _ are-short (c.code_fault.ensures ∙ fault_is c.requires))

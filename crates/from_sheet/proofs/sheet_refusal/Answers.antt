@@ -1,6 +1,5 @@
 -- A bad line is refused; where there is none, checks 2 to 44 decide. Assumes nothing.
 use mathlib.Core.Path.{◌≡◌, sym, ap, ◌∙◌}
-use borrow.Author.Rules.{rules}
 use borrow.Author.Tests.{eq-eqb, ne_eqb}
 use Rattle.image.specs.Refusals as refusal
 use Rattle.image.proofs.Refusing.{fails, goes_on}
@@ -19,7 +18,7 @@ returns-then-found-ne0 c =
 pub programs_refusal-requires : goal.programs_refusal-requires
 programs_refusal-requires c =
     let all_allowed : bad_line c.args.sheet.now ≡ 0 =
-        sym c.survey_of-found.ensures.bad_is ∙ c.if-found-ne0.false in
+    sym c.survey_of-found.ensures.bad_is ∙ c.if-found-ne0.false in
     let sheet = c.args.sheet.now in
     record {
       sizes_are = c.survey_of-found.ensures.sizes_are c.if-found-ne0.false;
@@ -30,5 +29,5 @@ pub returns : goal.returns
 unfolding sheet_refusal
 returns c =
     let all_allowed : bad_line c.args.sheet.now ≡ 0 =
-        sym c.survey_of-found.ensures.bad_is ∙ c.if-found-ne0.false in
+    sym c.survey_of-found.ensures.bad_is ∙ c.if-found-ne0.false in
     goes_on refusal.line (eq-eqb _ 0 all_allowed) c.programs_refusal.ensures

@@ -1,7 +1,6 @@
 -- The words behind the cells are as many as the list has. Assumes nothing.
 use Prim.Native.Nat.{ℕ}
 use mathlib.Core.Path.{ap, ◌∙◌}
-use borrow.Author.Rules.{rules}
 use Rattle.prefix.specs.Prefix.{prefix_bytes}
 use Rattle.input.specs.Prefix.{words_from}
 use Rattle.input.proofs.read_guards.Goals as goal

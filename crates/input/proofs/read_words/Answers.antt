@@ -1,8 +1,7 @@
 -- The loop's invariant: the words below i are there, and the length stays. The measure is what is left of it. Assumes nothing.
-use mathlib.Core.Path.{◌≡◌}
-use Prim.Native.Nat.{ℕ, ◌+◌, ◌*◌, ◌≤◌, ◌<◌, ◌-◌}
+use Prim.Native.Nat.{◌+◌, ◌*◌}
 use native.Mathlib.Omega.{arith}
-use lib.ListN.{length, get_or, length-set}
+use lib.ListN.{length-set}
 use borrow.Author.Count.{below_none}
 use borrow.Author.Rules.{rules}
 use Rattle.base.proofs.Tables.{tabulate_is, table_more}

@@ -1,6 +1,5 @@
 -- The four bytes stand in the input, and the sum is the definition's. Assumes nothing.
 use native.Mathlib.Omega.{arith}
-use borrow.Author.Rules.{rules}
 use Rattle.input.specs.Prefix.{word_at}
 use Rattle.input.proofs.word_at.Goals as goal
 

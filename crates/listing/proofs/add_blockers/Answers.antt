@@ -3,7 +3,7 @@ use Prim.Native.Nat.{◌<◌}
 use native.Mathlib.Omega.{arith}
 use Rattle.base.specs.Masks.{word_bits}
 use Rattle.listing.proofs.Masks.{member_few, within_less}
-use Rattle.listing.proofs.Readers.{Adding, adding_start, adding_next, adding_end}
+use Rattle.listing.proofs.Readers.{adding_start, adding_next, adding_end}
 use Rattle.listing.proofs.add_blockers.Goals as goal
 
 pub loop-rest-init : goal.loop-rest-init

@@ -1,9 +1,5 @@
 -- The loop's invariant: the group's bits are in the entries of the programs that are not in the rest. The measure is the rest. Assumes nothing.
-use Prim.Native.Nat.{◌<◌}
-use native.Mathlib.Omega.{arith}
-use Rattle.base.specs.Masks.{word_bits}
-use Rattle.listing.proofs.Masks.{member_few, within_less}
-use Rattle.listing.proofs.Readers.{Adding, adding_start, adding_next, adding_end}
+use Rattle.listing.proofs.Readers.{Adding}
 use Rattle.listing.proofs.add_blockers.Given as goal
 
 abbrev pub invariant-loop-rest : goal.invariant-loop-rest

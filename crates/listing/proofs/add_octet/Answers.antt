@@ -1,5 +1,4 @@
 -- The readers that are found are the group's, and their bits make the entries whole up to its end. Assumes nothing.
-use borrow.Author.Rules.{rules}
 use Rattle.listing.proofs.Readers.{blockers_next}
 use Rattle.listing.proofs.add_octet.Goals as goal
 

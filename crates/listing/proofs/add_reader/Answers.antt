@@ -1,10 +1,8 @@
 -- A program that is not committed has no committed reads; otherwise its counted reads are cells. Assumes nothing.
 use mathlib.Core.Path.{sym, ◌∙◌}
 use Prim.Native.Nat.{◌^◌}
-use borrow.Author.Tests.{not-true, not-false}
 use Rattle.slot.specs.declared.ListKind.TheVariants.{Reads}
 use Rattle.listing.proofs.Readers.{list_at_lem, no_reads, some_reads}
-use borrow.Author.Rules.{rules}
 use Rattle.listing.proofs.add_reader.Goals as goal
 
 pub returns-then-not-is_committed : goal.returns-then-not-is_committed

@@ -1,10 +1,9 @@
 -- The loop's invariant: what is found and the bits of the cells not yet passed are those of all. The measure is what is left of the count. Assumes nothing.
-use mathlib.Core.Path.{◌≡◌, ap}
-use Prim.Native.Nat.{◌+◌, ◌≤◌, ◌-◌, ◌<◌}
+use mathlib.Core.Path.{ap}
+use Prim.Native.Nat.{◌+◌, ◌<◌}
 use native.Mathlib.Omega.{arith}
 use lib.ListN.{get_or}
 use borrow.Author.Rules.{rules}
-use Rattle.base.specs.Words.{words}
 use Rattle.base.proofs.Walks.{words_start}
 use Rattle.image.specs.Limits.{max_cells}
 use Rattle.listing.specs.Readers.{bits_for}

@@ -1,14 +1,8 @@
 -- The loop's invariant: what is found and the bits of the cells not yet passed are those of all. The measure is what is left of the count. Assumes nothing.
-use mathlib.Core.Path.{◌≡◌, ap}
-use Prim.Native.Nat.{◌+◌, ◌≤◌, ◌-◌, ◌<◌}
-use native.Mathlib.Omega.{arith}
-use lib.ListN.{get_or}
-use borrow.Author.Rules.{rules}
+use mathlib.Core.Path.{◌≡◌}
+use Prim.Native.Nat.{◌+◌, ◌≤◌, ◌-◌}
 use Rattle.base.specs.Words.{words}
-use Rattle.base.proofs.Walks.{words_start}
-use Rattle.image.specs.Limits.{max_cells}
 use Rattle.listing.specs.Readers.{bits_for}
-use Rattle.listing.proofs.Readers.{find_turn, find_end}
 use Rattle.listing.proofs.bits_for.Given as goal
 
 abbrev pub invariant-loop-k : goal.invariant-loop-k

@@ -1,9 +1,7 @@
 -- The loop's invariant: the first k entries are copied, the rest is as it was. The measure is what is left of n. Assumes nothing.
 use mathlib.Core.Path.{◌≡◌, refl}
-use mathlib.Core.List.{◌++◌}
-use Prim.Native.Nat.{◌≤◌, ◌-◌}
 use native.Mathlib.Omega.{arith}
-use lib.ListN.{length, take, drop, length-set}
+use lib.ListN.{length-set}
 use borrow.Author.Rules.{rules}
 use Rattle.listing.proofs.Turns.{copy_more}
 use Rattle.listing.proofs.copy_order.Goals as goal

@@ -1,11 +1,8 @@
 -- The loop's invariant: the first k entries are copied, the rest is as it was. The measure is what is left of n. Assumes nothing.
-use mathlib.Core.Path.{◌≡◌, refl}
+use mathlib.Core.Path.{◌≡◌}
 use mathlib.Core.List.{◌++◌}
-use Prim.Native.Nat.{◌≤◌, ◌-◌}
-use native.Mathlib.Omega.{arith}
-use lib.ListN.{length, take, drop, length-set}
-use borrow.Author.Rules.{rules}
-use Rattle.listing.proofs.Turns.{copy_more}
+use Prim.Native.Nat.{◌≤◌}
+use lib.ListN.{length, take, drop}
 use Rattle.listing.proofs.copy_order.Given as goal
 
 abbrev pub invariant-loop-k : goal.invariant-loop-k

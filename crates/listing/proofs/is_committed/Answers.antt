@@ -3,7 +3,6 @@ use mathlib.Core.Path.{ap, ◌∙◌}
 use Rattle.slot.specs.declared.Group.TheVariants.{Committed}
 use Rattle.slot.specs.States.{is_in}
 use Rattle.area.specs.Layout.{in_group}
-use borrow.Author.Rules.{rules}
 use Rattle.listing.proofs.is_committed.Goals as goal
 
 pub returns : goal.returns

@@ -7,7 +7,6 @@ use borrow.Author.Tests.{le-leb, lt-leb}
 use Rattle.image.specs.Image.{count_of}
 use Rattle.image.proofs.Refusing.{fails, goes_on, first_refuses, first_passes}
 use Rattle.listing.specs.Listing.{list_refusal}
-use borrow.Author.Rules.{rules}
 use Rattle.listing.proofs.list_refusal.Goals as goal
 
 pub returns-then-refused-ne0 : goal.returns-then-refused-ne0

@@ -2,7 +2,7 @@
 use Prim.Native.Nat.{◌<◌}
 use native.Mathlib.Omega.{arith}
 use Rattle.base.specs.Masks.{word_bits}
-use Rattle.listing.proofs.Masks.{member_few, within_less, Unseen, unseen_start, unseen_found, unseen_next, unseen_end}
+use Rattle.listing.proofs.Masks.{member_few, within_less, unseen_start, unseen_found, unseen_next, unseen_end}
 use Rattle.listing.proofs.next_free.Goals as goal
 
 pub loop-rest-init : goal.loop-rest-init

@@ -1,8 +1,5 @@
 -- The loop's invariant: none that is not in the rest is free. The measure is the rest. Assumes nothing.
-use Prim.Native.Nat.{◌<◌}
-use native.Mathlib.Omega.{arith}
-use Rattle.base.specs.Masks.{word_bits}
-use Rattle.listing.proofs.Masks.{member_few, within_less, Unseen, unseen_start, unseen_found, unseen_next, unseen_end}
+use Rattle.listing.proofs.Masks.{Unseen}
 use Rattle.listing.proofs.next_free.Given as goal
 
 abbrev pub invariant-loop-rest : goal.invariant-loop-rest

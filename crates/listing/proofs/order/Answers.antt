@@ -1,7 +1,6 @@
 -- A refusal is answered and the list is left; otherwise the checks have shown what `order_checked` needs, and its answer is the call's.
 -- Assumes nothing.
 use mathlib.Core.Path.{◌≡◌, sym, ◌∙◌}
-use borrow.Author.Rules.{rules}
 use Rattle.image.proofs.Refusing.{number_of}
 use Rattle.listing.specs.Listing.{list_refusal}
 use Rattle.listing.proofs.Orders.{list_ready, order_refused, order_done}

@@ -3,11 +3,10 @@
 use mathlib.Core.Path.{◌≡◌}
 use Prim.Native.Nat.{◌+◌, ◌≤◌, ◌-◌}
 use native.Mathlib.Omega.{arith}
-use borrow.Author.Rules.{rules}
 use Rattle.base.specs.Masks.{word_bits}
 use Rattle.base.proofs.Numbers.{first_le}
 use Rattle.base.proofs.Masks.{shifted}
-use Rattle.listing.proofs.Turns.{Taking, taking_start, taking_turn, taking_stuck, taking_full}
+use Rattle.listing.proofs.Turns.{taking_start, taking_turn, taking_stuck, taking_full}
 use Rattle.listing.proofs.pick_all.Goals as goal
 
 pub loop-taken-init : goal.loop-taken-init

@@ -1,13 +1,7 @@
 -- The loop's invariant: those taken so far, and then those that are picked from what is left, are all that are picked. The measure is what is left of n.
 -- Assumes nothing.
-use mathlib.Core.Path.{◌≡◌}
-use Prim.Native.Nat.{◌+◌, ◌≤◌, ◌-◌}
-use native.Mathlib.Omega.{arith}
-use borrow.Author.Rules.{rules}
-use Rattle.base.specs.Masks.{word_bits}
-use Rattle.base.proofs.Numbers.{first_le}
-use Rattle.base.proofs.Masks.{shifted}
-use Rattle.listing.proofs.Turns.{Taking, taking_start, taking_turn, taking_stuck, taking_full}
+use Prim.Native.Nat.{◌-◌}
+use Rattle.listing.proofs.Turns.{Taking}
 use Rattle.listing.proofs.pick_all.Given as goal
 
 abbrev pub invariant-loop-taken : goal.invariant-loop-taken

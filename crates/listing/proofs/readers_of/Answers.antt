@@ -2,7 +2,6 @@
 use Rattle.slot.specs.declared.ListKind.TheVariants.{Stores}
 use Rattle.area.specs.Layout.{list_of}
 use Rattle.listing.proofs.Readers.{list_at_lem}
-use borrow.Author.Rules.{rules}
 use Rattle.listing.proofs.readers_of.Goals as goal
 
 pub bits_for-requires : goal.bits_for-requires

@@ -1,16 +1,11 @@
 -- The loop's invariant: the bits set for the cells not yet passed, in what is there, give the whole. The measure is what is left of the count.
 -- Assumes nothing.
-use mathlib.Core.Path.{◌≡◌, ap}
-use mathlib.Core.List.{List}
-use Prim.Native.Nat.{ℕ, ◌+◌, ◌≤◌, ◌-◌, ◌<◌}
-use native.Mathlib.Omega.{arith}
-use lib.ListN.{length, get_or, length-set}
-use borrow.Author.Rules.{rules}
+use mathlib.Core.Path.{◌≡◌}
+use Prim.Native.Nat.{◌+◌, ◌≤◌, ◌-◌}
+use lib.ListN.{length}
 use Rattle.base.specs.Words.{words}
-use Rattle.base.proofs.Walks.{words_start}
 use Rattle.image.specs.Limits.{max_cells}
 use Rattle.listing.specs.Readers.{with_bits}
-use Rattle.listing.proofs.Readers.{set_turn, set_end}
 use Rattle.listing.proofs.set_bits.Given as goal
 
 abbrev pub invariant-loop-k : goal.invariant-loop-k

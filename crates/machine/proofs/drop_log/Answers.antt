@@ -1,5 +1,4 @@
 -- A run that keeps its log leaves the slot as it is; otherwise the slot is cleared, and holds nothing. Assumes nothing.
-use Rattle.std.proofs.Common.{rules}
 use Rattle.machine.proofs.Ends.{log_kept, log_dropped}
 use Rattle.machine.proofs.drop_log.Goals as goal
 

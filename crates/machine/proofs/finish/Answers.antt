@@ -1,5 +1,4 @@
 -- What the run keeps stands in the slot; its state and detail are written before it. Assumes nothing.
-use Rattle.std.proofs.Common.{rules}
 use Rattle.machine.proofs.Ends.{end_written}
 use Rattle.machine.proofs.finish.Goals as goal
 

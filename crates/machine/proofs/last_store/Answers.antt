@@ -1,5 +1,5 @@
 -- The slot is cleared, and the turns leave the run's log in it and the machine at the run's end. Assumes nothing.
-use Rattle.std.proofs.Common.{ℕ, length, replicate, ap, ◌∙◌, rules}
+use Rattle.std.proofs.Common.{ℕ, length, replicate, ap, ◌∙◌}
 use Rattle.machine.specs.declared.Machine.{Machine}
 use Rattle.machine.specs.Runs.{store_at}
 use Rattle.machine.proofs.Laws.{last_registers}

@@ -1,5 +1,5 @@
 -- The slot is cleared, the turns leave the run's log in it, and the end lays it out. Assumes nothing.
-use Rattle.std.proofs.Common.{ℕ, replicate, sym, ap, ◌∙◌, rules}
+use Rattle.std.proofs.Common.{ℕ, replicate, sym, ap, ◌∙◌}
 use Rattle.slot.specs.Log.{layout}
 use Rattle.slot.specs.States.{waiting}
 use Rattle.machine.proofs.Ends.{outcome_log, outcome_words, end_is}

@@ -1,10 +1,9 @@
 -- The loop's invariant, `Going`: what is left of the run ends as the whole run does. The measure is what is left of the instructions, since every turn
 -- goes forward. Assumes nothing.
-use Rattle.std.proofs.Common.{◌≡◌, ◌-◌, length, sym, refl, ap, ◌∙◌, arith, rules}
+use Rattle.std.proofs.Common.{◌≡◌, ◌-◌}
 use Rattle.image.specs.Instruction.{instructions_of}
 use Rattle.guard.specs.Guards.{admits}
-use Rattle.machine.proofs.Going.{Going, going_start, going_ready, going_words, going_end, going_stop, going_next, going_forward}
-use Rattle.machine.proofs.Named.{instruction_named}
+use Rattle.machine.proofs.Going.{Going}
 use Rattle.machine.proofs.take_turns.Given as goal
 
 abbrev pub invariant-loop-machine : goal.invariant-loop-machine

@@ -1,5 +1,4 @@
 -- Each arm is a case of the definition, and what was matched says which. Assumes nothing.
-use borrow.Author.Rules.{rules}
 use Rattle.numbers.proofs.of_why.Goals as goal
 
 pub returns-in-Waw : goal.returns-in-Waw

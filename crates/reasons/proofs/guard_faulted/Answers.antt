@@ -1,6 +1,5 @@
 -- The state decides, and then the kind in the detail. Assumes nothing.
 use mathlib.Core.Path.{sym, ◌∙◌}
-use borrow.Author.Rules.{rules}
 use Rattle.reasons.proofs.Pages.{not_faulted, by_kind}
 use Rattle.reasons.proofs.guard_faulted.Goals as goal
 

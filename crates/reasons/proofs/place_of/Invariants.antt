@@ -1,10 +1,7 @@
 -- The loop's invariant: `count` is how many of the programs below k are carried. The measure is what is left of them. Assumes nothing.
-use mathlib.Core.Path.{◌≡◌, sym, ◌∙◌}
-use Prim.Native.Nat.{◌≤◌, ◌-◌}
-use native.Mathlib.Omega.{arith}
-use borrow.Author.Rules.{rules}
+use mathlib.Core.Path.{◌≡◌}
+use Prim.Native.Nat.{◌≤◌}
 use Rattle.reasons.specs.Reasons.{place_of}
-use Rattle.reasons.proofs.Pages.{place_none, place_more, place_low, earlier_lies}
 use Rattle.reasons.proofs.place_of.Given as goal
 
 abbrev pub invariant-loop-k : goal.invariant-loop-k

@@ -1,5 +1,4 @@
 -- The definition's numbers are written. Assumes nothing.
-use borrow.Author.Rules.{rules}
 use Rattle.reasons.specs.Reasons.{again_text}
 use Rattle.reasons.proofs.put_again.Goals as goal
 

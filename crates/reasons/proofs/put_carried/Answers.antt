@@ -1,5 +1,4 @@
 -- Each arm is a case of the definition, and what was matched says which; what fits whole fits piece by piece. Assumes nothing.
-use Rattle.std.proofs.Common.{rules}
 use Rattle.text.proofs.Writing.{room_first, room_then, wrote_both}
 use Rattle.reasons.specs.Reasons.{carried_text}
 use Rattle.reasons.proofs.put_carried.Goals as goal

@@ -1,5 +1,4 @@
 -- Each arm is a case of the definition, and what was matched says which. Assumes nothing.
-use Rattle.std.proofs.Common.{rules}
 use Rattle.reasons.specs.Reasons.{committed_text}
 use Rattle.reasons.proofs.put_committed.Goals as goal
 

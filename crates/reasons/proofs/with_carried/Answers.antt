@@ -1,7 +1,6 @@
 -- The test picks the definition's case. Assumes nothing.
 use mathlib.Core.Path.{sym, ◌∙◌}
 use native.Mathlib.Omega.{arith}
-use borrow.Author.Rules.{rules}
 use Rattle.reasons.proofs.with_carried.Goals as goal
 
 pub returns-then-is_in : goal.returns-then-is_in

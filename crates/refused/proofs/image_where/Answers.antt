@@ -3,7 +3,6 @@ use mathlib.Core.Path.{◌≡◌, sym, ◌∙◌}
 use mathlib.Core.Bool.{true}
 use native.Mathlib.Omega.{arith}
 use borrow.Author.Rules.{rules}
-use borrow.Author.Tests.{not-true, not-false}
 use Rattle.text.proofs.Writing.{page_says}
 use Rattle.image.specs.Refusals.{says_where}
 use Rattle.refused.proofs.Wheres.{where_short, nothing_said, program_lies, instruction_there, said_is}
@@ -15,13 +14,13 @@ returns-then-not-says_where c = nothing_said _ c.image_refusal-refusal.ensures _
 pub part_of-program-requires : goal.part_of-program-requires
 part_of-program-requires c =
     let says : says_where c.image_refusal-refusal.result.number ≡ true =
-        sym c.says_where.ensures ∙ c.if-not-says_where.false in
+    sym c.says_where.ensures ∙ c.if-not-says_where.false in
     program_lies _ c.image_refusal-refusal.ensures says
 
 pub wrong_byte-byte-requires : goal.wrong_byte-byte-requires
 wrong_byte-byte-requires c =
     let says : says_where c.image_refusal-refusal.result.number ≡ true =
-        sym c.says_where.ensures ∙ c.if-not-says_where.false in
+    sym c.says_where.ensures ∙ c.if-not-says_where.false in
     instruction_there _ c.image_refusal-refusal.ensures says c.part_of-program.ensures.bytes_are
 
 pub put_where-requires : goal.put_where-requires
@@ -32,6 +31,6 @@ put_where-requires c =
 pub returns : goal.returns
 returns c =
     let says : says_where c.image_refusal-refusal.result.number ≡ true =
-        sym c.says_where.ensures ∙ c.if-not-says_where.false in
+    sym c.says_where.ensures ∙ c.if-not-says_where.false in
     rw (said_is _ c.image_refusal-refusal.ensures says c.part_of-program.ensures.bytes_are c.wrong_byte-byte.ensures)
     (page_says c.put_where.ensures)

@@ -1,5 +1,4 @@
 -- The text is the definition's. Assumes nothing.
-use borrow.Author.Rules.{rules}
 use Rattle.refused.specs.Refused.{refused_line}
 use Rattle.refused.proofs.put_refused.Goals as goal
 

@@ -1,5 +1,4 @@
 -- The text up to the line's number, the number, and the newline. Assumes nothing.
-use borrow.Author.Rules.{rules}
 use Rattle.text.proofs.Writing.{room_first, room_then, wrote_both}
 use Rattle.refused.specs.Refused.{refused_at_line}
 use Rattle.refused.proofs.put_refused_at.Goals as goal

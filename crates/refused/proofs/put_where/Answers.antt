@@ -1,5 +1,4 @@
 -- The place, and then what is wrong there. Assumes nothing.
-use borrow.Author.Rules.{rules}
 use Rattle.text.proofs.Writing.{room_first, room_then, wrote_both}
 use Rattle.refused.specs.Where.{where_text}
 use Rattle.refused.proofs.put_where.Goals as goal

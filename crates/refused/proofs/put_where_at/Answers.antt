@@ -1,5 +1,4 @@
 -- The line's number between its two texts, and the place. Assumes nothing.
-use borrow.Author.Rules.{rules}
 use Rattle.text.proofs.Writing.{room_first, room_then, wrote_both}
 use Rattle.refused.specs.Where.{where_at_line}
 use Rattle.refused.proofs.put_where_at.Goals as goal

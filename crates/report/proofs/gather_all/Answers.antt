@@ -1,10 +1,7 @@
 -- The loop's invariant: the first k programs are gathered. The measure is what is left of n. Assumes nothing.
 use mathlib.Core.Path.{◌≡◌}
-use Prim.Native.Nat.{◌≤◌, ◌-◌}
 use native.Mathlib.Omega.{arith}
-use lib.ListN.{length}
 use borrow.Author.Rules.{rules}
-use Rattle.report.specs.Batch.{gather_first}
 use Rattle.report.proofs.Batches.{gather_none, gather_more}
 use Rattle.report.proofs.gather_all.Goals as goal
 

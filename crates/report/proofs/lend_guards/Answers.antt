@@ -2,7 +2,6 @@
 use mathlib.Core.Path.{subst}
 use Prim.Native.Nat.{◌≤◌}
 use lib.ListN.{length}
-use borrow.Author.Rules.{rules}
 use Rattle.report.specs.declared.Guards.{Guards}
 use Rattle.report.specs.Batch.{image_start}
 use Rattle.report.proofs.Pages.{lends_full}

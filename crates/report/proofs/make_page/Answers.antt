@@ -1,5 +1,5 @@
 -- What the run of the input says is told: its refusal, or the page of what it has left in the rooms. Assumes nothing.
-use Rattle.std.proofs.Common.{arith, rules}
+use Rattle.std.proofs.Common.{arith}
 use native.Mathlib.Nat.{sub-zero}
 use Rattle.text.proofs.Writing.{page_says}
 use Rattle.report.proofs.Pages.{page_refused, page_settled, refusal_room, settled_prefix, settled_told}

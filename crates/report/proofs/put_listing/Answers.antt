@@ -1,6 +1,5 @@
 -- The words of a slice of u32 have 32 bits, so the listing is short. Assumes nothing.
 use native.Mathlib.Omega.{arith}
-use borrow.Author.Rules.{rules}
 use Rattle.results.proofs.Short.{listing_short}
 use Rattle.report.proofs.put_listing.Goals as goal
 

@@ -2,7 +2,6 @@
 use mathlib.Core.Path.{subst}
 use Prim.Native.Nat.{◌≤◌}
 use lib.ListN.{length}
-use borrow.Author.Rules.{rules}
 use Rattle.report.specs.declared.Page.{Page}
 use Rattle.report.specs.Batch.{page_most}
 use Rattle.report.proofs.put_page.Goals as goal

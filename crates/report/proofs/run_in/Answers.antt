@@ -1,5 +1,4 @@
 -- What opening refuses is told; otherwise the batch is gathered and settled. Assumes nothing.
-use borrow.Author.Rules.{rules}
 use Rattle.report.proofs.Batches.{run_done}
 use Rattle.report.proofs.run_in.Goals as goal
 

@@ -1,6 +1,6 @@
 -- A prefix that is not good is refused, and so is an input that is too short for its guards; what opening refuses is told; otherwise the first cells and words
 -- are what the batch leaves. Assumes nothing.
-use Rattle.std.proofs.Common.{◌≡◌, ℕ, ◌*◌, ◌-◌, ◌≤◌, List, length, take, arith, rules}
+use Rattle.std.proofs.Common.{◌≡◌, ℕ, ◌*◌, ◌-◌, ◌≤◌, List, length, take, arith}
 use lib.Seq.{length-take-le}
 use Rattle.input.proofs.Prefixes.{cells_whole}
 use Rattle.report.specs.Batch.{image_start}

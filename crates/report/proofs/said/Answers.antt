@@ -1,6 +1,5 @@
 -- Where the prefix is good and the guards are there, it is what is said of the image behind them. Assumes nothing.
 use native.Mathlib.Omega.{arith}
-use borrow.Author.Rules.{rules}
 use Rattle.input.proofs.Prefixes.{cells_whole}
 use Rattle.report.proofs.Pages.{nothing_said, nothing_of_guards, said_is}
 use Rattle.report.proofs.said.Goals as goal

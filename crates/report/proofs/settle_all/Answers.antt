@@ -1,11 +1,7 @@
 -- The loop's invariant: the first k programs are settled. The measure is what is left of n. Assumes nothing.
 use mathlib.Core.Path.{◌≡◌}
-use Prim.Native.Nat.{◌≤◌, ◌-◌}
 use native.Mathlib.Omega.{arith}
-use lib.ListN.{length}
 use borrow.Author.Rules.{rules}
-use Rattle.report.specs.Batch.{lent, settle_first}
-use Rattle.report.specs.Runs.{Leaves}
 use Rattle.report.proofs.Batches.{leaves_none, leaves_more}
 use Rattle.report.proofs.settle_all.Goals as goal
 

@@ -1,5 +1,4 @@
 -- The text with the two numbers in it. Assumes nothing.
-use borrow.Author.Rules.{rules}
 use Rattle.results.specs.Listing.{cell_line}
 use Rattle.results.proofs.put_cell.Goals as goal
 

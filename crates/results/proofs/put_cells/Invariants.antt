@@ -1,13 +1,9 @@
 -- The loop's invariant: the lines of the cells below c stand there. The measure is what is left of the table. Assumes nothing.
 use mathlib.Core.Path.{◌≡◌}
-use Prim.Native.Nat.{◌≤◌, ◌-◌}
-use native.Mathlib.Omega.{arith}
+use Prim.Native.Nat.{◌≤◌}
 use lib.ListN.{length}
-use borrow.Author.Rules.{rules}
 use Rattle.text.specs.Filled.{texts}
 use Rattle.text.specs.Writing.{Wrote}
-use Rattle.text.proofs.Writing.{wrote_none}
-use Rattle.text.proofs.Fillings.{texts_none, text_room, text_turn}
 use Rattle.results.specs.Listing.{cell_line}
 use Rattle.results.proofs.put_cells.Given as goal
 

@@ -1,13 +1,9 @@
 -- The loop's invariant: the entries below i stand there. The measure is what is left of the order. Assumes nothing.
 use mathlib.Core.Path.{◌≡◌}
-use Prim.Native.Nat.{◌≤◌, ◌-◌}
-use native.Mathlib.Omega.{arith}
+use Prim.Native.Nat.{◌≤◌}
 use lib.ListN.{length}
-use borrow.Author.Rules.{rules}
 use Rattle.text.specs.Filled.{texts}
 use Rattle.text.specs.Writing.{Wrote}
-use Rattle.text.proofs.Writing.{wrote_none}
-use Rattle.text.proofs.Fillings.{texts_none, text_room, text_turn}
 use Rattle.results.specs.Listing.{order_entry}
 use Rattle.results.proofs.put_entries.Given as goal
 

@@ -1,5 +1,4 @@
 -- The text with the number in it. Assumes nothing.
-use borrow.Author.Rules.{rules}
 use Rattle.results.specs.Listing.{order_entry}
 use Rattle.results.proofs.put_entry.Goals as goal
 

@@ -1,5 +1,5 @@
 -- The call for the listed order answers a refusal, which is told, or a count, and then its first entries are the order. Assumes nothing.
-use Rattle.std.proofs.Common.{◌≡◌, ◌-◌, arith, rules}
+use Rattle.std.proofs.Common.{◌≡◌, ◌-◌, arith}
 use Rattle.results.proofs.Orders.{refused_is, listed_is}
 use Rattle.results.proofs.put_listing.Goals as goal
 

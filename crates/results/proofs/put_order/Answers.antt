@@ -1,8 +1,5 @@
 -- Three writes, one after another: the word, the entries, the line's end. Assumes nothing.
-use mathlib.Core.List.{List}
-use Prim.Native.Nat.{ℕ}
 use lib.ListN.{length}
-use borrow.Author.Rules.{rules}
 use Rattle.text.specs.Ascii.{ascii}
 use Rattle.text.specs.Filled.{texts}
 use Rattle.results.specs.Listing.{order_entry, order_line}

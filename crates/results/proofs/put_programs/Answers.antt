@@ -1,10 +1,7 @@
 -- The loop's invariant: the lines of the programs below k stand there. The measure is what is left of n. Assumes nothing.
 use mathlib.Core.Path.{◌≡◌}
-use Prim.Native.Nat.{◌≤◌, ◌-◌}
 use native.Mathlib.Omega.{arith}
 use borrow.Author.Rules.{rules}
-use Rattle.text.specs.Filled.{texts}
-use Rattle.text.specs.Writing.{Wrote}
 use Rattle.text.proofs.Writing.{wrote_none}
 use Rattle.text.proofs.Fillings.{texts_none, text_room, text_turn}
 use Rattle.area.proofs.Checks.{measured_lies}
@@ -17,11 +14,10 @@ loop-k-init c =
     (search rules, rw (texts_none (program_line a.cells a.area.now)) (wrote_none a.out.now a.at))
 
 pub put_program-next-requires : goal.put_program-next-requires
-put_program-next-requires c =
-    (
-      measured_lies _ _ _ c.requires.0 _ (omega arith),
-      text_room (program_line c.args.cells c.args.area.now) (omega arith) c.loop-k.invariant.1 c.requires.1,
-    )
+put_program-next-requires c = (
+  measured_lies _ _ _ c.requires.0 _ (omega arith),
+  text_room (program_line c.args.cells c.args.area.now) (omega arith) c.loop-k.invariant.1 c.requires.1,
+)
 
 pub loop-k-preserved : goal.loop-k-preserved
 loop-k-preserved c =

@@ -1,13 +1,7 @@
 -- The loop's invariant: the lines of the programs below k stand there. The measure is what is left of n. Assumes nothing.
-use mathlib.Core.Path.{◌≡◌}
-use Prim.Native.Nat.{◌≤◌, ◌-◌}
-use native.Mathlib.Omega.{arith}
-use borrow.Author.Rules.{rules}
+use Prim.Native.Nat.{◌≤◌}
 use Rattle.text.specs.Filled.{texts}
 use Rattle.text.specs.Writing.{Wrote}
-use Rattle.text.proofs.Writing.{wrote_none}
-use Rattle.text.proofs.Fillings.{texts_none, text_room, text_turn}
-use Rattle.area.proofs.Checks.{measured_lies}
 use Rattle.results.specs.Listing.{program_line}
 use Rattle.results.proofs.put_programs.Given as goal
 

@@ -1,5 +1,4 @@
 -- Four writes, one after another: the first line, the programs, the order, the cells. Assumes nothing.
-use Rattle.std.proofs.Common.{rules}
 use Rattle.text.proofs.Writing.{room_first, room_then, wrote_both}
 use Rattle.results.specs.Listing.{listing_with}
 use Rattle.results.proofs.Lines.{first_fits, second_fits, third_fits, wrote_three}

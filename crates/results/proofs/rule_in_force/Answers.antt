@@ -1,6 +1,5 @@
 -- The test decides. Assumes nothing.
 use mathlib.Core.Path.{sym, ◌∙◌}
-use borrow.Author.Rules.{rules}
 use Rattle.results.proofs.rule_in_force.Goals as goal
 
 pub returns-then-second_rule : goal.returns-then-second_rule

@@ -1,5 +1,4 @@
 -- What fits whole fits piece by piece, and two writes leave both texts. Assumes nothing.
-use borrow.Author.Rules.{rules}
 use Rattle.text.proofs.Writing.{room_first, room_then, wrote_both}
 use Rattle.sentences.specs.Sentences.{again}
 use Rattle.sentences.proofs.put_again.Goals as goal

@@ -1,5 +1,4 @@
 -- The two texts are the definition's. Assumes nothing.
-use borrow.Author.Rules.{rules}
 use Rattle.sentences.specs.Sentences.{load_fault_line, load_fault}
 use Rattle.sentences.proofs.put_load_fault.Goals as goal
 

@@ -1,6 +1,5 @@
 -- What fits whole fits piece by piece, and four writes leave the four texts: the value, the low end, the high end, and what comes of the program.
 -- Assumes nothing.
-use Rattle.std.proofs.Common.{rules}
 use Rattle.text.proofs.Writing.{room_first, room_then, wrote_both}
 use Rattle.sentences.specs.Sentences.{not_admitted}
 use Rattle.sentences.proofs.put_not_admitted.Goals as goal

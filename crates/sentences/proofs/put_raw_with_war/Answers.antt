@@ -1,5 +1,4 @@
 -- The two texts are the definition's. Assumes nothing.
-use borrow.Author.Rules.{rules}
 use Rattle.sentences.specs.Sentences.{raw_with_war_line, raw_with_war}
 use Rattle.sentences.proofs.put_raw_with_war.Goals as goal
 

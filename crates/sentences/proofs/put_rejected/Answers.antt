@@ -1,5 +1,4 @@
 -- The two texts are the definition's. Assumes nothing.
-use borrow.Author.Rules.{rules}
 use Rattle.sentences.specs.Sentences.{rejected_line, rejected}
 use Rattle.sentences.proofs.put_rejected.Goals as goal
 

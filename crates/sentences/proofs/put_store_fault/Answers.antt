@@ -1,5 +1,4 @@
 -- The two texts are the definition's. Assumes nothing.
-use borrow.Author.Rules.{rules}
 use Rattle.sentences.specs.Sentences.{store_fault_line, store_fault}
 use Rattle.sentences.proofs.put_store_fault.Goals as goal
 

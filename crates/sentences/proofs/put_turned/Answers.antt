@@ -1,5 +1,4 @@
 -- The two texts are the definition's. Assumes nothing.
-use borrow.Author.Rules.{rules}
 use Rattle.sentences.specs.Sentences.{committed_line, turned}
 use Rattle.sentences.proofs.put_turned.Goals as goal
 

@@ -1,6 +1,5 @@
 -- The run leaves its slot; the cells that the two reservations read back out of it are those that the run kept. Assumes nothing.
 use Rattle.steps.proofs.Says.{after_run, after_stores, after_reads}
-use borrow.Author.Rules.{rules}
 use Rattle.steps.proofs.gather_checked.Goals as goal
 
 pub reserve-requires : goal.reserve-requires

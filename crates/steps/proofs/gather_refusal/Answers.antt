@@ -8,7 +8,6 @@ use Rattle.area.specs.Checks.{Checked}
 use Rattle.area.proofs.Checks.{program_lies}
 use Rattle.steps.specs.Gathering.{waits, gather_refusal}
 use Rattle.steps.proofs.Refusals.{step_shows}
-use borrow.Author.Rules.{rules}
 use Rattle.steps.proofs.gather_refusal.Goals as goal
 
 pub returns-then-refused-ne0 : goal.returns-then-refused-ne0

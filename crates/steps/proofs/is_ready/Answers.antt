@@ -1,9 +1,7 @@
 -- All the states first, then the program's own. Assumes nothing.
 use mathlib.Core.Path.{sym, ap, ◌∙◌}
-use borrow.Author.Tests.{not-true, not-false}
 use Rattle.slot.specs.States.{can_settle}
 use Rattle.steps.specs.Settling.{is_ready}
-use borrow.Author.Rules.{rules}
 use Rattle.steps.proofs.is_ready.Goals as goal
 
 pub returns-then-not-states_from : goal.returns-then-not-states_from

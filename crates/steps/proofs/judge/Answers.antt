@@ -3,8 +3,6 @@ use Prim.Native.Nat.{◌≤◌, ◌<◌}
 use mathlib.Core.Path.{◌≡◌, sym, ap, ◌∙◌}
 use mathlib.Core.Bool.{true}
 use native.Mathlib.Omega.{arith}
-use borrow.Author.Tests.{not-true, not-false}
-use borrow.Author.Rules.{rules}
 use Rattle.image.specs.Image.{second_rule}
 use Rattle.slot.specs.declared.ListKind.TheVariants.{Reads, Stores}
 use Rattle.area.specs.declared.MarkKind.TheVariants.{Write}

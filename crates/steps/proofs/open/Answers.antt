@@ -1,5 +1,4 @@
 -- The refusal is that of checks 1 to 6; where there is none, every word of the area has been set to 0. Assumes nothing.
-use borrow.Author.Rules.{rules}
 use Rattle.steps.proofs.Says.{open_refused, open_done}
 use Rattle.steps.proofs.open.Goals as goal
 

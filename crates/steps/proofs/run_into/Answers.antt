@@ -4,7 +4,6 @@ use mathlib.Core.List.{List}
 use Prim.Native.Nat.{ℕ}
 use native.Mathlib.Omega.{arith}
 use lib.ListN.{length-take, length-drop}
-use borrow.Author.Rules.{rules}
 use Rattle.image.proofs.Laws.{accepted, lies}
 use Rattle.machine.specs.Runs.{Runnable}
 use Rattle.machine.proofs.Laws.{part_runnable}

@@ -1,6 +1,5 @@
 -- The refusal is that of checks 1 to 9; where there is none, the checks have shown what settling needs. Assumes nothing.
 use mathlib.Core.Path.{sym, ◌∙◌}
-use borrow.Author.Rules.{rules}
 use Rattle.image.proofs.Refusing.{number_of}
 use Rattle.steps.proofs.Refusals.{settle_shows}
 use Rattle.steps.proofs.Says.{settle_refused, settle_done}

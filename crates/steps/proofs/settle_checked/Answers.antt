@@ -1,6 +1,5 @@
 -- The decision is made on the area as it was, and its cells are dropped; then the table takes its stores, and the slot its state and detail. Assumes nothing.
 use mathlib.Core.Path.{ap, ◌∙◌}
-use borrow.Author.Rules.{rules}
 use Rattle.area.proofs.Checks.{program_lies, program_slotted}
 use Rattle.steps.specs.Settling.{settled_by}
 use Rattle.steps.proofs.Says.{cells_dropped, after_settling}

@@ -10,7 +10,6 @@ use Rattle.area.specs.Checks.{Checked}
 use Rattle.area.proofs.Checks.{measured}
 use Rattle.steps.specs.Settling.{is_ready, settle_refusal}
 use Rattle.steps.proofs.Refusals.{step_shows}
-use borrow.Author.Rules.{rules}
 use Rattle.steps.proofs.settle_refusal.Goals as goal
 
 pub returns-then-refused-ne0 : goal.returns-then-refused-ne0

@@ -1,5 +1,4 @@
 -- Each arm is a case of the definition, and what was matched says which. Assumes nothing.
-use borrow.Author.Rules.{rules}
 use Rattle.steps.proofs.settled_by.Goals as goal
 
 pub returns-in-Waw : goal.returns-in-Waw

@@ -6,7 +6,6 @@ use borrow.Author.Tests.{lt-ltb, le-ltb}
 use Rattle.image.specs.Image.{count_of}
 use Rattle.image.proofs.Refusing.{fails, goes_on, first_refuses, first_passes}
 use Rattle.steps.specs.Gathering.{step_refusal}
-use borrow.Author.Rules.{rules}
 use Rattle.steps.proofs.step_refusal.Goals as goal
 
 pub returns-then-refused-ne0 : goal.returns-then-refused-ne0

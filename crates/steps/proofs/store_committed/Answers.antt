@@ -1,5 +1,4 @@
 -- Each arm is a case of the definition, and what was matched says which. Assumes nothing.
-use borrow.Author.Rules.{rules}
 use Rattle.steps.specs.Settling.{settled_table}
 use Rattle.steps.proofs.store_committed.Goals as goal
 

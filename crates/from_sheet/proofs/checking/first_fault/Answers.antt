@@ -1,14 +1,13 @@
 -- The loop's invariant: what was found, or else what is still to be found in this program and those to come, is the sheet's first fault; and they can be
 -- read. The measure is what is left of the sheet. Assumes nothing.
-use mathlib.Core.Path.{◌≡◌, refl, sym, ◌∙◌}
-use mathlib.Core.List.{[], ◌∷◌}
-use Prim.Native.Nat.{◌≤◌, ◌+◌, ◌-◌}
+use mathlib.Core.Path.{refl, sym, ◌∙◌}
+use mathlib.Core.List.{◌∷◌}
 use native.Mathlib.Omega.{arith}
-use lib.ListN.{length, take}
+use lib.ListN.{take}
 use lib.Seq.{length-take-le}
 use borrow.Author.Rules.{rules}
-use Rattle.image.specs.Refusals.{check, after}
-use Rattle.from_sheet.specs.Passes.{lines_from, InRoom, Readable, still_fault}
+use Rattle.image.specs.Refusals.{check}
+use Rattle.from_sheet.specs.Passes.{lines_from, Readable}
 use Rattle.from_sheet.proofs.Passing.{lines_none}
 use Rattle.from_sheet.proofs.ReadPrograms.{fault_next, fault_end, readable_next, readable_room}
 use Rattle.from_sheet.proofs.checking.first_fault.Goals as goal
@@ -20,7 +19,7 @@ loop-at-init c = let p = c.requires in (search rules, record { long = p.1; used_
 pub read_line-reading-requires : goal.read_line-reading-requires
 read_line-reading-requires c =
     let with-line : (let line = c.next_line-found.result in Readable c.loop-at.reading.begun (take c.loop-at.reading.used c.loop-at.room) (line.line ∷ lines_from line.next c.args.sheet.now)) =
-        rw c.next_line-found.ensures.lines at c.loop-at.invariant.2 in
+    rw c.next_line-found.ensures.lines at c.loop-at.invariant.2 in
     let i = c.loop-at.invariant.1 in
     (i, omega (arith, readable_room _ _ _ _ with-line, length-take-le c.loop-at.reading.used c.loop-at.room i.used_few, i.long))
 
@@ -30,7 +29,7 @@ loop-at-smaller c = omega (arith, c.next_line-found.ensures.on)
 pub loop-at-preserved : goal.loop-at-preserved
 loop-at-preserved c =
     let with-line : (let line = c.next_line-found.result in Readable c.loop-at.reading.begun (take c.loop-at.reading.used c.loop-at.room) (line.line ∷ lines_from line.next c.args.sheet.now)) =
-        rw c.next_line-found.ensures.lines at c.loop-at.invariant.2 in
+    rw c.next_line-found.ensures.lines at c.loop-at.invariant.2 in
     let r = c.read_line-reading.ensures in
     let i = c.loop-at.invariant in
     let next = readable_next _ _ _ _ with-line in (

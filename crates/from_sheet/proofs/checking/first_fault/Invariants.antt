@@ -1,16 +1,11 @@
 -- The loop's invariant: what was found, or else what is still to be found in this program and those to come, is the sheet's first fault; and they can be
 -- read. The measure is what is left of the sheet. Assumes nothing.
-use mathlib.Core.Path.{◌≡◌, refl, sym, ◌∙◌}
-use mathlib.Core.List.{[], ◌∷◌}
+use mathlib.Core.Path.{◌≡◌}
+use mathlib.Core.List.{[]}
 use Prim.Native.Nat.{◌≤◌, ◌+◌, ◌-◌}
-use native.Mathlib.Omega.{arith}
 use lib.ListN.{length, take}
-use lib.Seq.{length-take-le}
-use borrow.Author.Rules.{rules}
-use Rattle.image.specs.Refusals.{check, after}
+use Rattle.image.specs.Refusals.{after}
 use Rattle.from_sheet.specs.Passes.{lines_from, InRoom, Readable, still_fault}
-use Rattle.from_sheet.proofs.Passing.{lines_none}
-use Rattle.from_sheet.proofs.ReadPrograms.{fault_next, fault_end, readable_next, readable_room}
 use Rattle.from_sheet.proofs.checking.first_fault.Given as goal
 
 abbrev pub invariant-loop-at : goal.invariant-loop-at

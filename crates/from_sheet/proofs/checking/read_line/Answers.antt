@@ -1,7 +1,6 @@
 -- In each arm the line is of that kind. Assumes nothing.
 use mathlib.Core.Path.{refl}
 use native.Mathlib.Omega.{arith}
-use borrow.Author.Rules.{rules}
 use Rattle.text.specs.Writing.{Room}
 use Rattle.sheet.specs.Sheet.{bytes_of}
 use Rattle.from_sheet.specs.Passes.{body_of, read_after, begun_after, found_after}
@@ -12,7 +11,7 @@ pub put_instruction-requires : goal.put_instruction-requires
 unfolding body_of
 put_instruction-requires c =
     let has_room : (let a = c.args in Room a.room.now a.reading.used (bytes_of c.in-Instruction.i)) =
-        record { fits = rw c.in-Instruction.is at c.requires.1 } in
+    record { fits = rw c.in-Instruction.is at c.requires.1 } in
     has_room
 
 pub returns-in-Rule : goal.returns-in-Rule
@@ -29,7 +28,7 @@ pub returns-in-Instruction : goal.returns-in-Instruction
 unfolding body_of
 returns-in-Instruction c =
     let has_room : (let a = c.args in Room a.room.now a.reading.used (bytes_of c.in-Instruction.i)) =
-        record { fits = rw c.in-Instruction.is at c.requires.1 } in
+    record { fits = rw c.in-Instruction.is at c.requires.1 } in
     reads_instruction c.in-Instruction.i c.in-Instruction.is has_room c.put_instruction.ensures
 
 pub returns-in-Other : goal.returns-in-Other

@@ -1,5 +1,4 @@
 -- In each arm the line is of that kind. Assumes nothing.
-use borrow.Author.Rules.{rules}
 use Rattle.sheet.specs.Sheet.{allowed}
 use Rattle.from_sheet.proofs.counting.allowed.Goals as goal
 

@@ -1,5 +1,4 @@
 -- In each arm the line is of that kind. Assumes nothing.
-use borrow.Author.Rules.{rules}
 use Rattle.from_sheet.specs.Passes.{counted}
 use Rattle.from_sheet.proofs.counting.counted.Goals as goal
 

@@ -1,5 +1,4 @@
 -- The two tests decide. Assumes nothing.
-use borrow.Author.Rules.{rules}
 use borrow.Author.Tests.{eq-eqb, ne_eqb}
 use Rattle.from_sheet.specs.Passes.{last_bad}
 use Rattle.from_sheet.proofs.counting.last_bad.Goals as goal

@@ -1,7 +1,6 @@
 -- The line is what stands up to the next newline. Assumes nothing.
 use mathlib.Core.Path.{◌∙◌}
 use native.Mathlib.Omega.{arith}
-use borrow.Author.Rules.{rules}
 use Rattle.base.specs.Words.{words}
 use Rattle.from_sheet.proofs.Passing.{lines_next}
 use Rattle.from_sheet.proofs.counting.next_line.Goals as goal

@@ -1,18 +1,11 @@
 -- The loop's invariant: every line before the place is allowed, the part that begins there ends at `end`, and the sizes so far, with the lines from there on,
 -- are the sheet's. The measure is what is left of it. Assumes nothing.
-use mathlib.Core.Path.{◌≡◌, refl, sym, ap, ◌∙◌}
-use mathlib.Core.List.{List}
-use Prim.Native.Nat.{ℕ, ◌≤◌, ◌+◌, ◌-◌}
-use native.Mathlib.Omega.{arith}
+use mathlib.Core.Path.{◌≡◌}
+use Prim.Native.Nat.{◌≤◌, ◌-◌}
 use lib.ListN.{length, drop}
-use borrow.Author.Rules.{rules}
-use borrow.Author.Tests.{not-true, not-false}
-use Rattle.base.specs.Words.{words}
 use Rattle.sheet.specs.Split.{split, Ends}
 use Rattle.sheet.specs.Sheet.{newline, bad_from, bad_line}
-use Rattle.from_sheet.specs.declared.counting.Sizes.{Sizes}
 use Rattle.from_sheet.specs.Passes.{lines_from, tally, nothing, Small}
-use Rattle.from_sheet.proofs.Passing.{lines_next, bad_next, last_is, last_good_lem, nothing_behind, tally_other, tally_next, small_next}
 use Rattle.from_sheet.proofs.counting.survey_of.Given as goal
 
 abbrev pub invariant-loop-end : goal.invariant-loop-end

@@ -1,11 +1,9 @@
 -- The loop's invariant: so many lines are behind, and so many that begin a program are still to come. The measure is what is left of the sheet. Assumes
 -- nothing.
 use Prim.Native.Nat.{◌+◌, ◌-◌, ◌≤◌}
-use native.Mathlib.Omega.{arith}
 use lib.ListN.{length}
-use borrow.Author.Rules.{rules}
 use Rattle.from_sheet.specs.Passes.{lines_from}
-use Rattle.from_sheet.proofs.Searching.{Search, search_start, search_next, search_there, search_end}
+use Rattle.from_sheet.proofs.Searching.{Search}
 use Rattle.from_sheet.proofs.finding.beginning_of.Given as goal
 
 abbrev pub invariant-loop-left : goal.invariant-loop-left

@@ -1,7 +1,6 @@
 -- The test says whether the line begins one. Assumes nothing.
 use mathlib.Core.Path.{◌≡◌, sym, ◌∙◌}
 use mathlib.Core.Bool.{true, false}
-use borrow.Author.Rules.{rules}
 use Rattle.from_sheet.specs.WrongLines.{begins, left_behind}
 use Rattle.from_sheet.proofs.finding.left_behind.Goals as goal
 

@@ -1,14 +1,8 @@
 -- The loop's invariant: the instructions of the lines before the place stand there. The measure is what is left of the sheet. Assumes nothing.
-use mathlib.Core.Path.{◌≡◌, ap, ◌∙◌}
-use mathlib.Core.List.{◌++◌}
 use Prim.Native.Nat.{◌≤◌, ◌+◌, ◌-◌}
-use native.Mathlib.Omega.{arith}
 use lib.ListN.{length}
-use borrow.Author.Rules.{rules}
-use Rattle.text.proofs.Writing.{Partly, partly_none, partly_room, partly_more, partly_end}
-use Rattle.from_sheet.specs.Passes.{lines_from, body_of, bodies}
-use Rattle.from_sheet.proofs.Passing.{lines_none}
-use Rattle.from_sheet.proofs.Pieces.{bodies_none, bodies_next}
+use Rattle.text.proofs.Writing.{Partly}
+use Rattle.from_sheet.specs.Passes.{lines_from, bodies}
 use Rattle.from_sheet.proofs.writing.put_bodies.Given as goal
 
 abbrev pub invariant-loop-from : goal.invariant-loop-from

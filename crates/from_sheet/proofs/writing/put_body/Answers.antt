@@ -1,5 +1,4 @@
 -- In each arm the line is of that kind. Assumes nothing.
-use borrow.Author.Rules.{rules}
 use Rattle.text.proofs.Writing.{wrote_none}
 use Rattle.from_sheet.specs.Passes.{body_of}
 use Rattle.from_sheet.proofs.writing.put_body.Goals as goal

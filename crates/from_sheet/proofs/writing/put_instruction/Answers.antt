@@ -1,6 +1,5 @@
 -- Two bytes, and two more. Assumes nothing.
 use native.Mathlib.Omega.{arith}
-use borrow.Author.Rules.{rules}
 use Rattle.text.proofs.Writing.{wrote_more}
 use Rattle.from_sheet.proofs.writing.put_instruction.Goals as goal
 

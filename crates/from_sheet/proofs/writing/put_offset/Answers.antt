@@ -1,7 +1,6 @@
 -- In each arm the line is of that kind. Assumes nothing.
 use mathlib.Core.Path.{refl}
 use native.Mathlib.Omega.{arith}
-use borrow.Author.Rules.{rules}
 use Rattle.text.proofs.Writing.{wrote_none}
 use Rattle.writer.proofs.Programs.{length_number}
 use Rattle.from_sheet.specs.Passes.{body_of, offset_at}

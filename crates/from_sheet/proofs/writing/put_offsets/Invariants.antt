@@ -1,18 +1,10 @@
 -- The loop's invariant: the offsets of the lines before the place stand there, and the program that is being read ends where its instructions so far do.
 -- The measure is what is left of the sheet. Assumes nothing.
-use mathlib.Core.Path.{◌≡◌, refl, ap, ◌∙◌}
-use mathlib.Core.List.{[], ◌++◌, append-nil}
 use Prim.Native.Nat.{◌≤◌, ◌+◌, ◌-◌}
-use native.Mathlib.Omega.{arith}
 use lib.ListN.{length}
-use borrow.Author.Rules.{rules}
-use Rattle.text.proofs.Writing.{Partly, partly_none, partly_room, partly_more, partly_end}
+use Rattle.text.proofs.Writing.{Partly}
 use Rattle.image.specs.Limits.{max_bytes}
-use Rattle.writer.specs.Joined.{number}
-use Rattle.writer.proofs.Programs.{length_number}
-use Rattle.from_sheet.specs.Passes.{lines_from, body_of, bodies, offset_at, offsets_from}
-use Rattle.from_sheet.proofs.Passing.{lines_none}
-use Rattle.from_sheet.proofs.Pieces.{bodies_long, offsets_last, offsets_next}
+use Rattle.from_sheet.specs.Passes.{lines_from, bodies, offsets_from}
 use Rattle.from_sheet.proofs.writing.put_offsets.Given as goal
 
 abbrev pub invariant-loop-from : goal.invariant-loop-from

@@ -1,5 +1,4 @@
 -- The first line says it. Assumes nothing.
-use borrow.Author.Rules.{rules}
 use Rattle.sheet.specs.Sheet.{rule_in, rule_of}
 use Rattle.from_sheet.proofs.writing.rule_of.Goals as goal
 

@@ -1,5 +1,5 @@
 -- A program has no instruction from place 32 on. Assumes nothing.
-use Rattle.std.proofs.Common.{sym, arith, rules}
+use Rattle.std.proofs.Common.{sym, arith}
 use lib.ListN.{get_or-eq_default}
 use Rattle.machine.proofs.Machine.byte_here.Goals as goal
 

@@ -1,5 +1,5 @@
 -- The cell's number is within the table or not, and the cell's place tells whether the run has stored it: three cases, each with its law. Assumes nothing.
-use Rattle.std.proofs.Common.{◌+◌, ◌-◌, get_or, sym, ◌∙◌, rules}
+use Rattle.std.proofs.Common.{◌+◌, ◌-◌, get_or, sym, ◌∙◌}
 use Rattle.slot.specs.Layout.{first_value}
 use Rattle.slot.specs.Log.{log_of, with_read}
 use Rattle.machine.specs.Asks.{written}

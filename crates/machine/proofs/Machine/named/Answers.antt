@@ -1,5 +1,5 @@
 -- The byte names a register or not. Assumes nothing.
-use Rattle.std.proofs.Common.{sym, arith, rules}
+use Rattle.std.proofs.Common.{sym, arith}
 use lib.ListN.{get_or-eq_default}
 use Rattle.machine.proofs.Machine.named.Goals as goal
 

@@ -1,5 +1,5 @@
 -- The machine has passed on; where the test holds, c places more. Assumes nothing.
-use Rattle.std.proofs.Common.{ap, arith, rules}
+use Rattle.std.proofs.Common.{ap, arith}
 use Rattle.machine.specs.declared.Machine.{Machine}
 use Rattle.machine.proofs.Machine.skipped.Goals as goal
 

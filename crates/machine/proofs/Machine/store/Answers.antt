@@ -1,5 +1,5 @@
 -- The cell's number is within the table or not, and its guard admits the value or not: three cases, each with its law. Assumes nothing.
-use Rattle.std.proofs.Common.{sym, ◌∙◌, rules}
+use Rattle.std.proofs.Common.{sym, ◌∙◌}
 use Rattle.guard.specs.Guards.{admits}
 use Rattle.slot.specs.Log.{log_of, with_store}
 use Rattle.machine.specs.Asks.{passed}

@@ -1,5 +1,4 @@
 -- The two bytes name the registers with the cell's number and the value. Assumes nothing.
-use Rattle.std.proofs.Common.{rules}
 use Rattle.machine.proofs.Machine.store_here.Goals as goal
 
 pub returns : goal.returns

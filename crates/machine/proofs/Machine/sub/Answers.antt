@@ -1,5 +1,5 @@
 -- The difference of the two registers' values wraps as `subtracted` says. Assumes nothing.
-use Rattle.std.proofs.Common.{◌≡◌, ◌∙◌, arith, rules}
+use Rattle.std.proofs.Common.{◌≡◌, ◌∙◌, arith}
 use Rattle.machine.specs.Asks.{subtracted}
 use Rattle.machine.proofs.Machine.sub.Goals as goal
 

@@ -1,6 +1,5 @@
 -- At each return the tests that led there say which line it is. Assumes nothing.
 use native.Mathlib.Omega.{arith}
-use borrow.Author.Rules.{rules}
 use Rattle.sheet.specs.Sheet.{largest_byte}
 use Rattle.sheet.proofs.ReadingLines.{up_to_over, no_operation, no_first, no_second, no_third, instruction_is}
 use Rattle.sheet.proofs.reading.instruction_line.Goals as goal

@@ -1,11 +1,8 @@
 -- The loop's invariant: no operation below this one has the word for its name. The measure is how many are left. Assumes nothing.
 use mathlib.Core.Path.{◌≡◌, sym, ◌∙◌}
-use mathlib.Core.Bool.{false}
-use Prim.Native.Nat.{ℕ, ◌≤◌, ◌<◌, ◌-◌}
 use native.Mathlib.Omega.{arith}
 use borrow.Author.Rules.{rules}
-use Rattle.sheet.specs.Split.{same}
-use Rattle.sheet.specs.Sheet.{operations, name_of}
+use Rattle.sheet.specs.Sheet.{operations}
 use Rattle.sheet.proofs.ReadingLines.{first_name, no_name, none_more}
 use Rattle.sheet.proofs.reading.operation_of.Goals as goal
 

@@ -1,12 +1,9 @@
 -- The loop's invariant: no operation below this one has the word for its name. The measure is how many are left. Assumes nothing.
-use mathlib.Core.Path.{◌≡◌, sym, ◌∙◌}
+use mathlib.Core.Path.{◌≡◌}
 use mathlib.Core.Bool.{false}
-use Prim.Native.Nat.{ℕ, ◌≤◌, ◌<◌, ◌-◌}
-use native.Mathlib.Omega.{arith}
-use borrow.Author.Rules.{rules}
+use Prim.Native.Nat.{ℕ, ◌≤◌, ◌<◌}
 use Rattle.sheet.specs.Split.{same}
 use Rattle.sheet.specs.Sheet.{operations, name_of}
-use Rattle.sheet.proofs.ReadingLines.{first_name, no_name, none_more}
 use Rattle.sheet.proofs.reading.operation_of.Given as goal
 
 abbrev pub invariant-loop-op : goal.invariant-loop-op

@@ -1,9 +1,6 @@
 -- The loop's invariant: nothing from the place on is a separator before `end`. The measure is what is left of the text. Assumes nothing.
-use Prim.Native.Nat.{◌-◌}
 use native.Mathlib.Omega.{arith}
-use lib.ListN.{length}
-use borrow.Author.Rules.{rules}
-use Rattle.sheet.proofs.Parts.{Seeks, seeks_none, seeks_more, seeks_here, seeks_end}
+use Rattle.sheet.proofs.Parts.{seeks_none, seeks_more, seeks_here, seeks_end}
 use Rattle.sheet.proofs.reading.part_end.Goals as goal
 
 pub loop-end-init : goal.loop-end-init

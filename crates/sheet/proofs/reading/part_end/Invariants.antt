@@ -1,9 +1,7 @@
 -- The loop's invariant: nothing from the place on is a separator before `end`. The measure is what is left of the text. Assumes nothing.
 use Prim.Native.Nat.{◌-◌}
-use native.Mathlib.Omega.{arith}
 use lib.ListN.{length}
-use borrow.Author.Rules.{rules}
-use Rattle.sheet.proofs.Parts.{Seeks, seeks_none, seeks_more, seeks_here, seeks_end}
+use Rattle.sheet.proofs.Parts.{Seeks}
 use Rattle.sheet.proofs.reading.part_end.Given as goal
 
 abbrev pub invariant-loop-end : goal.invariant-loop-end

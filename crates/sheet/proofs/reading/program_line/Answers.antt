@@ -1,6 +1,5 @@
 -- The comparison decides. Assumes nothing.
-use mathlib.Core.Path.{refl, sym, ◌∙◌}
-use borrow.Author.Rules.{rules}
+use mathlib.Core.Path.{sym, ◌∙◌}
 use Rattle.sheet.specs.Sheet.{program_line}
 use Rattle.sheet.proofs.reading.program_line.Goals as goal
 

@@ -1,9 +1,7 @@
 -- At each return the tests that led there say which line it is. Assumes nothing.
-use mathlib.Core.Path.{refl, sym, ◌∙◌}
+use mathlib.Core.Path.{sym, ◌∙◌}
 use mathlib.Core.Logic.{inl, inr}
 use native.Mathlib.Omega.{arith}
-use borrow.Author.Rules.{rules}
-use borrow.Author.Tests.{not-true, not-false}
 use Rattle.sheet.specs.Sheet.{largest_rule}
 use Rattle.sheet.proofs.ReadingLines.{up_to_over, rule_other, rule_is}
 use Rattle.sheet.proofs.reading.rule_line.Goals as goal

@@ -1,11 +1,9 @@
 -- The loop's invariant: they are equal where they are from k on. The measure is what is left of them. Assumes nothing.
-use mathlib.Core.Path.{◌≡◌, refl, sym, ◌∙◌}
-use Prim.Native.Nat.{◌≤◌, ◌-◌}
+use mathlib.Core.Path.{refl, sym, ◌∙◌}
 use native.Mathlib.Omega.{arith}
-use lib.ListN.{length, get_or, drop}
+use lib.ListN.{get_or}
 use borrow.Author.Rules.{rules}
 use borrow.Author.Tests.{eq-eqb, ne_eqb}
-use Rattle.sheet.specs.Split.{same}
 use Rattle.sheet.proofs.Parts.{same_long, same_end, same_next}
 use Rattle.sheet.proofs.reading.same.Goals as goal
 

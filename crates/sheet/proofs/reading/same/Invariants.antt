@@ -1,12 +1,8 @@
 -- The loop's invariant: they are equal where they are from k on. The measure is what is left of them. Assumes nothing.
-use mathlib.Core.Path.{◌≡◌, refl, sym, ◌∙◌}
+use mathlib.Core.Path.{◌≡◌}
 use Prim.Native.Nat.{◌≤◌, ◌-◌}
-use native.Mathlib.Omega.{arith}
-use lib.ListN.{length, get_or, drop}
-use borrow.Author.Rules.{rules}
-use borrow.Author.Tests.{eq-eqb, ne_eqb}
+use lib.ListN.{length, drop}
 use Rattle.sheet.specs.Split.{same}
-use Rattle.sheet.proofs.Parts.{same_long, same_end, same_next}
 use Rattle.sheet.proofs.reading.same.Given as goal
 
 abbrev pub invariant-loop-k : goal.invariant-loop-k

@@ -1,7 +1,6 @@
 -- In each arm the answer tells the number, or that there is none. Assumes nothing.
 use mathlib.Core.Path.{sym, ◌∙◌}
 use borrow.Author.Rules.{rules}
-use Rattle.sheet.specs.Sheet.{up_to}
 use Rattle.sheet.proofs.ReadingLines.{told, told_up_to, up_to_few}
 use Rattle.sheet.proofs.reading.up_to.Goals as goal
 
