@@ -1,5 +1,6 @@
 // The library for C: include/sheetbendle.h declares these functions. A slice is a pointer and a length there.
 #![tactic(auto)]
+
 ghost use Rattle.std.specs.Prelude.{◌≡◌, ◌^◌, ◌<◌};
 ghost use Rattle.listing.specs.Listing.{numbers_of_listed};
 ghost use Rattle.carry.specs.Next.{numbers_of_next};

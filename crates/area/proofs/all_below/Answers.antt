@@ -1,4 +1,4 @@
--- The loop's invariant: each word passed is below the bound. The measure is how many are left. Assumes nothing.
+-- The loop's invariant: each word passed is below the bound. Assumes nothing.
 use mathlib.Core.Path.{◌≡◌, sym}
 use native.Mathlib.Omega.{arith}
 use borrow.Author.Rules.{rules}

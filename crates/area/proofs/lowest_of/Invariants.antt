@@ -1,4 +1,4 @@
--- The loop's invariant: what has been found is the lowest of the cells passed so far. The measure is how many are left. Assumes nothing.
+-- The loop's invariant: what has been found is the lowest of the cells passed so far. Assumes nothing.
 use mathlib.Core.Path.{◌≡◌}
 use Prim.Native.Nat.{◌≤◌}
 use Rattle.base.specs.Words.{words}

@@ -1,4 +1,4 @@
--- The loop's invariant: the mask has the programs passed that are in the group. The measure is how many are left. Assumes nothing.
+-- The loop's invariant: the mask has the programs passed that are in the group. Assumes nothing.
 use mathlib.Core.Path.{◌≡◌, sym, ap, ◌∙◌}
 use native.Mathlib.Omega.{arith}
 use Rattle.base.proofs.Masks.{mask_lt, mask_next, mask_start}

@@ -1,4 +1,4 @@
--- The loop's invariant: the mask has the programs passed that are in the group. The measure is how many are left. Assumes nothing.
+-- The loop's invariant: the mask has the programs passed that are in the group. Assumes nothing.
 use mathlib.Core.Path.{◌≡◌}
 use Prim.Native.Nat.{◌≤◌}
 use Rattle.base.specs.Masks.{mask_of}

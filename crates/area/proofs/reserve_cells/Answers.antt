@@ -1,5 +1,4 @@
--- The loop's invariant: reserving the cells that are left, in the area as it is, gives the whole, and the list stays as it was. The measure is how
--- many cells are left. Assumes nothing.
+-- The loop's invariant: reserving the cells that are left, in the area as it is, gives the whole, and the list stays as it was. Assumes nothing.
 use Prim.Native.Nat.{◌+◌, ◌<◌}
 use native.Mathlib.Omega.{arith}
 use lib.ListN.{get_or}

@@ -1,4 +1,4 @@
--- The loop's invariant: each slot passed is good. The measure is how many are left. Assumes nothing.
+-- The loop's invariant: each slot passed is good. Assumes nothing.
 use mathlib.Core.Path.{◌≡◌}
 use mathlib.Core.Bool.{true}
 use Prim.Native.Nat.{◌≤◌}

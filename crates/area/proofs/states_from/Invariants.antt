@@ -1,4 +1,4 @@
--- The loop's invariant: no state passed is below the least. The measure is how many are left. Assumes nothing.
+-- The loop's invariant: no state passed is below the least. Assumes nothing.
 use mathlib.Core.Path.{◌≡◌}
 use mathlib.Core.Bool.{true}
 use Prim.Native.Nat.{◌≤◌}

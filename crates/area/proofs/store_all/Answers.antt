@@ -1,4 +1,4 @@
--- The loop's invariant: the stores that are left, done on the table as it is, give the whole. The measure is how many are left. Assumes nothing.
+-- The loop's invariant: the stores that are left, done on the table as it is, give the whole. Assumes nothing.
 use mathlib.Core.Path.{refl}
 use native.Mathlib.Omega.{arith}
 use lib.ListN.{length-set}

@@ -1,4 +1,4 @@
--- The loop's invariant: the bytes below k stand there as they are shown. The measure is what is left of them. Assumes nothing.
+-- The loop's invariant: the bytes below k stand there as they are shown. Assumes nothing.
 use Rattle.std.proofs.Common.{◌≡◌, arith, rules}
 use Rattle.text.proofs.Writing.{wrote_none}
 use Rattle.text.proofs.Fillings.{texts_none, text_room, text_turn}

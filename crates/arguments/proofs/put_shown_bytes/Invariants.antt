@@ -1,4 +1,4 @@
--- The loop's invariant: the bytes below k stand there as they are shown. The measure is what is left of them. Assumes nothing.
+-- The loop's invariant: the bytes below k stand there as they are shown. Assumes nothing.
 use Rattle.std.proofs.Common.{◌≤◌}
 use Rattle.text.specs.Filled.{texts}
 use Rattle.text.specs.Writing.{Wrote}

@@ -1,5 +1,4 @@
--- The loop's invariant: `size` is the length of the lines below i, each of which is short. The measure is what is left of them.
--- Assumes nothing.
+-- The loop's invariant: `size` is the length of the lines below i, each of which is short. Assumes nothing.
 use mathlib.Core.Path.{◌≡◌, ap}
 use native.Mathlib.Omega.{arith}
 use lib.ListN.{length}

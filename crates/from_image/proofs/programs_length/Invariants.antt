@@ -1,5 +1,4 @@
--- The loop's invariant: `size` is the length of the lines of the programs below k, each of which is short. The measure is what is left of n.
--- Assumes nothing.
+-- The loop's invariant: `size` is the length of the lines of the programs below k, each of which is short. Assumes nothing.
 use mathlib.Core.Path.{◌≡◌}
 use Prim.Native.Nat.{◌*◌, ◌≤◌}
 use lib.ListN.{length}

@@ -1,4 +1,4 @@
--- The loop's invariant: the lines of the instructions below i stand there. The measure is what is left of them. Assumes nothing.
+-- The loop's invariant: the lines of the instructions below i stand there. Assumes nothing.
 use mathlib.Core.Path.{◌≡◌}
 use native.Mathlib.Omega.{arith}
 use borrow.Author.Rules.{rules}

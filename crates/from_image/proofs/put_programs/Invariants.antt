@@ -1,4 +1,4 @@
--- The loop's invariant: the lines of the programs below k stand there. The measure is what is left of n. Assumes nothing.
+-- The loop's invariant: the lines of the programs below k stand there. Assumes nothing.
 use Prim.Native.Nat.{◌≤◌}
 use Rattle.text.specs.Filled.{texts}
 use Rattle.text.specs.Writing.{Wrote}

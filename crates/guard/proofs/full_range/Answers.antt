@@ -1,4 +1,4 @@
--- The loop's invariant: the words below i are ends of the full range, and the length stays. The measure is what is left of it. Assumes nothing.
+-- The loop's invariant: the words below i are ends of the full range, and the length stays. Assumes nothing.
 use Rattle.std.proofs.Common.{arith, length-set, rules, below_none}
 use Rattle.base.proofs.Tables.{tabulate_is, table_more}
 use Rattle.guard.specs.Guards.{full_end}

@@ -1,4 +1,4 @@
--- The loop's invariant: the words below i are ends of the full range, and the length stays. The measure is what is left of it. Assumes nothing.
+-- The loop's invariant: the words below i are ends of the full range, and the length stays. Assumes nothing.
 use Rattle.std.proofs.Common.{◌≡◌, ℕ, ◌<◌, ◌≤◌, length, get_or}
 use Rattle.guard.specs.Guards.{full_end}
 use Rattle.guard.proofs.full_range.Given as goal

@@ -1,5 +1,5 @@
--- `code_refusal` meets its contract. The invariants: nothing bad was found, every program passed is good, and so is every instruction passed of this
--- one. The measures are how many are left. Leaving by the label, this program is the first that is bad. Assumes nothing.
+-- `code_refusal` meets its contract. The invariants: nothing bad was found, every program passed is good, and so is every instruction passed of this one.
+-- Leaving by the label, this program is the first that is bad. Assumes nothing.
 use mathlib.Core.Bool.{false}
 use mathlib.Core.Path.{◌≡◌, refl, sym, ◌∙◌}
 use Prim.Native.Nat.{◌≤◌, ◌<◌}

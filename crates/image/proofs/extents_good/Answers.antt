@@ -1,4 +1,4 @@
--- `extents_good` meets its contract. The loop's invariant: each program passed has a good extent. The measure is how many are left. Assumes nothing.
+-- `extents_good` meets its contract. The loop's invariant: each program passed has a good extent. Assumes nothing.
 use mathlib.Core.Path.{◌≡◌, sym, ◌∙◌}
 use native.Mathlib.Omega.{arith}
 use borrow.Author.Rules.{rules}

@@ -1,5 +1,4 @@
--- `program_fault` meets its contract. The loop's invariant: each instruction passed is good. The measure is how many are left. Where one is not good, it is
--- the first. Assumes nothing.
+-- `program_fault` meets its contract. The loop's invariant: each instruction passed is good. Where one is not good, it is the first. Assumes nothing.
 use mathlib.Core.Path.{sym, ◌∙◌}
 use native.Mathlib.Omega.{arith}
 use borrow.Author.Rules.{rules}

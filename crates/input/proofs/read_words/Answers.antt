@@ -1,4 +1,4 @@
--- The loop's invariant: the words below i are there, and the length stays. The measure is what is left of it. Assumes nothing.
+-- The loop's invariant: the words below i are there, and the length stays. Assumes nothing.
 use Prim.Native.Nat.{◌+◌, ◌*◌}
 use native.Mathlib.Omega.{arith}
 use lib.ListN.{length-set}

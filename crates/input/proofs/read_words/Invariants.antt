@@ -1,4 +1,4 @@
--- The loop's invariant: the words below i are there, and the length stays. The measure is what is left of it. Assumes nothing.
+-- The loop's invariant: the words below i are there, and the length stays. Assumes nothing.
 use mathlib.Core.Path.{◌≡◌}
 use Prim.Native.Nat.{ℕ, ◌+◌, ◌*◌, ◌≤◌, ◌<◌}
 use lib.ListN.{length, get_or}

@@ -1,4 +1,4 @@
--- The loop's invariant: the group's bits are in the entries of the programs that are not in the rest. The measure is the rest. Assumes nothing.
+-- The loop's invariant: the group's bits are in the entries of the programs that are not in the rest. Assumes nothing.
 use Prim.Native.Nat.{◌<◌}
 use native.Mathlib.Omega.{arith}
 use Rattle.base.specs.Masks.{word_bits}

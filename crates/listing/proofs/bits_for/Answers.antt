@@ -1,4 +1,4 @@
--- The loop's invariant: what is found and the bits of the cells not yet passed are those of all. The measure is what is left of the count. Assumes nothing.
+-- The loop's invariant: what is found and the bits of the cells not yet passed are those of all. Assumes nothing.
 use mathlib.Core.Path.{ap}
 use Prim.Native.Nat.{◌+◌, ◌<◌}
 use native.Mathlib.Omega.{arith}

@@ -1,4 +1,4 @@
--- The loop's invariant: the first k entries are copied, the rest is as it was. The measure is what is left of n. Assumes nothing.
+-- The loop's invariant: the first k entries are copied, the rest is as it was. Assumes nothing.
 use mathlib.Core.Path.{◌≡◌, refl}
 use native.Mathlib.Omega.{arith}
 use lib.ListN.{length-set}

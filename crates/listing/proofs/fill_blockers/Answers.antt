@@ -1,4 +1,4 @@
--- The loop's invariant: the programs below start are in the entries. The measure is what is left of n. Assumes nothing.
+-- The loop's invariant: the programs below start are in the entries. Assumes nothing.
 use mathlib.Core.Path.{◌≡◌}
 use native.Mathlib.Omega.{arith}
 use borrow.Author.Rules.{rules}

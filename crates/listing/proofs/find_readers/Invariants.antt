@@ -1,4 +1,4 @@
--- The loop's invariant: the bits are those of the programs from start up to the number. The measure is what is left of them. Assumes nothing.
+-- The loop's invariant: the bits are those of the programs from start up to the number. Assumes nothing.
 use Prim.Native.Nat.{◌≤◌}
 use Rattle.listing.specs.Readers.{committed_reads, ReadersOf}
 use Rattle.listing.proofs.find_readers.Given as goal

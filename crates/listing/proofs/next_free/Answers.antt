@@ -1,4 +1,4 @@
--- The loop's invariant: none that is not in the rest is free. The measure is the rest. Assumes nothing.
+-- The loop's invariant: none that is not in the rest is free. Assumes nothing.
 use Prim.Native.Nat.{◌<◌}
 use native.Mathlib.Omega.{arith}
 use Rattle.base.specs.Masks.{word_bits}

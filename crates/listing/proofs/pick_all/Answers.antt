@@ -1,5 +1,4 @@
--- The loop's invariant: those taken so far, and then those that are picked from what is left, are all that are picked. The measure is what is left of n.
--- Assumes nothing.
+-- The loop's invariant: those taken so far, and then those that are picked from what is left, are all that are picked. Assumes nothing.
 use mathlib.Core.Path.{◌≡◌}
 use Prim.Native.Nat.{◌+◌, ◌≤◌, ◌-◌}
 use native.Mathlib.Omega.{arith}

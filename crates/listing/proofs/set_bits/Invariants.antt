@@ -1,5 +1,4 @@
--- The loop's invariant: the bits set for the cells not yet passed, in what is there, give the whole. The measure is what is left of the count.
--- Assumes nothing.
+-- The loop's invariant: the bits set for the cells not yet passed, in what is there, give the whole. Assumes nothing.
 use mathlib.Core.Path.{◌≡◌}
 use Prim.Native.Nat.{◌+◌, ◌≤◌, ◌-◌}
 use lib.ListN.{length}

@@ -1,5 +1,4 @@
--- The loop's invariant, `Going`: what is left of the run ends as the whole run does. The measure is what is left of the instructions, since every turn
--- goes forward. Assumes nothing.
+-- The loop's invariant, `Going`: what is left of the run ends as the whole run does. Assumes nothing.
 use Rattle.std.proofs.Common.{refl, arith}
 use Rattle.guard.specs.Guards.{admits}
 use Rattle.machine.proofs.Going.{going_start, going_ready, going_end, going_stop, going_next, going_forward}

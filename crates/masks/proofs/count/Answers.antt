@@ -1,4 +1,4 @@
--- The loop's invariant: `found` is how many of the programs below k the mask has. The measure is what is left of n. Assumes nothing.
+-- The loop's invariant: `found` is how many of the programs below k the mask has. Assumes nothing.
 use mathlib.Core.Path.{◌≡◌, sym, ◌∙◌}
 use native.Mathlib.Omega.{arith}
 use borrow.Author.Rules.{rules}

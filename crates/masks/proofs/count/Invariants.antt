@@ -1,4 +1,4 @@
--- The loop's invariant: `found` is how many of the programs below k the mask has. The measure is what is left of n. Assumes nothing.
+-- The loop's invariant: `found` is how many of the programs below k the mask has. Assumes nothing.
 use mathlib.Core.Path.{◌≡◌}
 use Prim.Native.Nat.{◌≤◌}
 use Rattle.base.specs.Words.{count}

@@ -1,4 +1,4 @@
--- The loop's invariant: the words below c stand there. The measure is what is left of them. Assumes nothing.
+-- The loop's invariant: the words below c stand there. Assumes nothing.
 use mathlib.Core.Path.{◌≡◌}
 use lib.ListN.{length}
 use native.Mathlib.Omega.{arith}

@@ -1,4 +1,4 @@
--- The loop's invariant: `count` is how many of the programs below k are carried. The measure is what is left of them. Assumes nothing.
+-- The loop's invariant: `count` is how many of the programs below k are carried. Assumes nothing.
 use mathlib.Core.Path.{◌≡◌}
 use Prim.Native.Nat.{◌≤◌}
 use Rattle.reasons.specs.Reasons.{place_of}

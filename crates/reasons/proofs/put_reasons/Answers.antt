@@ -1,5 +1,5 @@
--- The loop's invariant: the page stands there as far as program k. The measure is what is left of the programs. A turn puts a program that a guard stopped, or
--- any other, in two writes of which one is empty. Assumes nothing.
+-- The loop's invariant: the page stands there as far as program k. A turn puts a program that a guard stopped, or any other, in two writes of which one is
+-- empty. Assumes nothing.
 use mathlib.Core.Path.{◌≡◌}
 use mathlib.Core.List.{◌++◌}
 use native.Mathlib.Omega.{arith}

@@ -1,4 +1,4 @@
--- The loop's invariant: the first k programs are gathered. The measure is what is left of n. Assumes nothing.
+-- The loop's invariant: the first k programs are gathered. Assumes nothing.
 use mathlib.Core.Path.{◌≡◌}
 use Prim.Native.Nat.{◌≤◌}
 use lib.ListN.{length}

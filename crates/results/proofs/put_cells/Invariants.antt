@@ -1,4 +1,4 @@
--- The loop's invariant: the lines of the cells below c stand there. The measure is what is left of the table. Assumes nothing.
+-- The loop's invariant: the lines of the cells below c stand there. Assumes nothing.
 use mathlib.Core.Path.{◌≡◌}
 use Prim.Native.Nat.{◌≤◌}
 use lib.ListN.{length}

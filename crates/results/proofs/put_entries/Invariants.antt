@@ -1,4 +1,4 @@
--- The loop's invariant: the entries below i stand there. The measure is what is left of the order. Assumes nothing.
+-- The loop's invariant: the entries below i stand there. Assumes nothing.
 use mathlib.Core.Path.{◌≡◌}
 use Prim.Native.Nat.{◌≤◌}
 use lib.ListN.{length}

@@ -1,4 +1,4 @@
--- The loop's invariant: the first i words are 0 and the others as they were. The measure is what is left of the length. Assumes nothing.
+-- The loop's invariant: the first i words are 0 and the others as they were. Assumes nothing.
 use Prim.Native.Nat.{ℕ}
 use mathlib.Core.Path.{◌≡◌, ap, ◌∙◌}
 use mathlib.Core.List.{List, append-nil}

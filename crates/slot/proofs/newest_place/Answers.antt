@@ -1,4 +1,4 @@
--- The loop's invariant: the newest of all n words is the newest of those that are left. The measure is how many are left. Assumes nothing.
+-- The loop's invariant: the newest of all n words is the newest of those that are left. Assumes nothing.
 use mathlib.Core.Path.{◌≡◌, sym, ◌∙◌}
 use native.Mathlib.Omega.{arith}
 use borrow.Author.Rules.{rules}

@@ -1,4 +1,4 @@
--- The loop's invariant: all are digits where those from k on are. The measure is what is left of them. Assumes nothing.
+-- The loop's invariant: all are digits where those from k on are. Assumes nothing.
 use mathlib.Core.Path.{refl, sym, ◌∙◌}
 use native.Mathlib.Omega.{arith}
 use borrow.Author.Rules.{rules}

@@ -1,4 +1,4 @@
--- The loop's invariant: all are digits where those from k on are. The measure is what is left of them. Assumes nothing.
+-- The loop's invariant: all are digits where those from k on are. Assumes nothing.
 use mathlib.Core.Path.{◌≡◌}
 use Prim.Native.Nat.{◌≤◌}
 use lib.ListN.{drop}

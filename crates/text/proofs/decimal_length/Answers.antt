@@ -1,5 +1,4 @@
--- The loop's invariant: the digits counted and those of what is left are one more than those of the number. The measure is what is left.
--- Assumes nothing.
+-- The loop's invariant: the digits counted and those of what is left are one more than those of the number. Assumes nothing.
 use native.Mathlib.Omega.{arith}
 use Rattle.text.proofs.Decimals.{length_small, length_large, decimal_short}
 use Rattle.text.proofs.decimal_length.Goals as goal

@@ -1,5 +1,4 @@
--- The loop's invariant: the first k bytes stand at the place, the rest is as it was. The measure is what is left of them.
--- Assumes nothing.
+-- The loop's invariant: the first k bytes stand at the place, the rest is as it was. Assumes nothing.
 use mathlib.Core.Path.{◌≡◌}
 use Prim.Native.Nat.{◌≤◌}
 use lib.ListN.{length}

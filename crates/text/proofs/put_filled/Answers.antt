@@ -1,4 +1,4 @@
--- The loop's invariant: the text has come to its byte k. The measure is what is left of it. Assumes nothing.
+-- The loop's invariant: the text has come to its byte k. Assumes nothing.
 use mathlib.Core.Path.{◌≡◌}
 use mathlib.Core.List.{◌++◌}
 use Prim.Native.Nat.{◌+◌, ◌<◌}

@@ -1,5 +1,4 @@
--- The loop's invariant: with what has been read in front, the bytes from k on give the word's number, as far as 2^32. The measure is what is left of
--- them. Assumes nothing.
+-- The loop's invariant: with what has been read in front, the bytes from k on give the word's number, as far as 2^32. Assumes nothing.
 use mathlib.Core.Path.{◌≡◌}
 use mathlib.Core.Bool.{true}
 use Prim.Native.Nat.{◌≤◌}

@@ -1,4 +1,4 @@
--- The loop's invariant: the bytes of the programs below i that the mask has stand there. The measure is what is left of n. Assumes nothing.
+-- The loop's invariant: the bytes of the programs below i that the mask has stand there. Assumes nothing.
 use mathlib.Core.Path.{◌≡◌, ap}
 use native.Mathlib.Omega.{arith}
 use lib.ListN.{length}

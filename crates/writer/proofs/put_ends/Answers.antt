@@ -1,4 +1,4 @@
--- The loop's invariant: the ends of the programs below i that the mask has stand there. The measure is what is left of n. Assumes nothing.
+-- The loop's invariant: the ends of the programs below i that the mask has stand there. Assumes nothing.
 use mathlib.Core.Path.{◌≡◌}
 use native.Mathlib.Omega.{arith}
 use borrow.Author.Rules.{rules}

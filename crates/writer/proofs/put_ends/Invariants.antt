@@ -1,4 +1,4 @@
--- The loop's invariant: the ends of the programs below i that the mask has stand there. The measure is what is left of n. Assumes nothing.
+-- The loop's invariant: the ends of the programs below i that the mask has stand there. Assumes nothing.
 use Prim.Native.Nat.{◌≤◌}
 use Rattle.base.specs.Masks.{has_bit}
 use Rattle.writer.specs.Picked.{picked}

@@ -1,4 +1,4 @@
--- The loop's invariant: `size` is the length of the programs below i that the mask has. The measure is what is left of n. Assumes nothing.
+-- The loop's invariant: `size` is the length of the programs below i that the mask has. Assumes nothing.
 use mathlib.Core.Path.{◌≡◌, sym, ap}
 use native.Mathlib.Omega.{arith}
 use lib.ListN.{length}

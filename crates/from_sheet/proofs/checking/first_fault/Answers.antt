@@ -1,5 +1,5 @@
 -- The loop's invariant: what was found, or else what is still to be found in this program and those to come, is the sheet's first fault; and they can be
--- read. The measure is what is left of the sheet. Assumes nothing.
+-- read. Assumes nothing.
 use mathlib.Core.Path.{refl, sym, ◌∙◌}
 use mathlib.Core.List.{◌∷◌}
 use native.Mathlib.Omega.{arith}

@@ -1,5 +1,5 @@
 -- The loop's invariant: every line before the place is allowed, the part that begins there ends at `end`, and the sizes so far, with the lines from there on,
--- are the sheet's. The measure is what is left of it. Assumes nothing.
+-- are the sheet's. Assumes nothing.
 use mathlib.Core.Path.{◌≡◌, refl, sym, ap, ◌∙◌}
 use Prim.Native.Nat.{ℕ, ◌≤◌, ◌+◌, ◌-◌}
 use native.Mathlib.Omega.{arith}

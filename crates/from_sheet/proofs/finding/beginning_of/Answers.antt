@@ -1,5 +1,4 @@
--- The loop's invariant: so many lines are behind, and so many that begin a program are still to come. The measure is what is left of the sheet. Assumes
--- nothing.
+-- The loop's invariant: so many lines are behind, and so many that begin a program are still to come. Assumes nothing.
 use native.Mathlib.Omega.{arith}
 use borrow.Author.Rules.{rules}
 use Rattle.from_sheet.proofs.Searching.{search_start, search_next, search_there, search_end}

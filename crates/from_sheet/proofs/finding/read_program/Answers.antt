@@ -1,4 +1,4 @@
--- The loop's invariant: the instructions of the lines before the place stand in the room. The measure is what is left of the sheet. Assumes nothing.
+-- The loop's invariant: the instructions of the lines before the place stand in the room. Assumes nothing.
 use mathlib.Core.Path.{◌≡◌, sym, ap, ◌∙◌}
 use mathlib.Core.List.{◌++◌}
 use native.Mathlib.Omega.{arith}

@@ -1,4 +1,4 @@
--- The loop's invariant: the instructions of the lines before the place stand there. The measure is what is left of the sheet. Assumes nothing.
+-- The loop's invariant: the instructions of the lines before the place stand there. Assumes nothing.
 use mathlib.Core.Path.{◌≡◌, ap, ◌∙◌}
 use mathlib.Core.List.{◌++◌}
 use native.Mathlib.Omega.{arith}

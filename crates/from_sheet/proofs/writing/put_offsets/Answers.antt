@@ -1,5 +1,5 @@
 -- The loop's invariant: the offsets of the lines before the place stand there, and the program that is being read ends where its instructions so far do.
--- The measure is what is left of the sheet. Assumes nothing.
+-- Assumes nothing.
 use mathlib.Core.Path.{◌≡◌, refl, ap, ◌∙◌}
 use mathlib.Core.List.{[], ◌++◌, append-nil}
 use Prim.Native.Nat.{◌+◌}

@@ -1,4 +1,4 @@
--- The loop's invariant: no operation below this one has the word for its name. The measure is how many are left. Assumes nothing.
+-- The loop's invariant: no operation below this one has the word for its name. Assumes nothing.
 use mathlib.Core.Path.{◌≡◌, sym, ◌∙◌}
 use native.Mathlib.Omega.{arith}
 use borrow.Author.Rules.{rules}

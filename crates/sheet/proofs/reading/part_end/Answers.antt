@@ -1,4 +1,4 @@
--- The loop's invariant: nothing from the place on is a separator before `end`. The measure is what is left of the text. Assumes nothing.
+-- The loop's invariant: nothing from the place on is a separator before `end`. Assumes nothing.
 use native.Mathlib.Omega.{arith}
 use Rattle.sheet.proofs.Parts.{seeks_none, seeks_more, seeks_here, seeks_end}
 use Rattle.sheet.proofs.reading.part_end.Goals as goal

@@ -1,4 +1,4 @@
--- The loop's invariant: they are equal where they are from k on. The measure is what is left of them. Assumes nothing.
+-- The loop's invariant: they are equal where they are from k on. Assumes nothing.
 use mathlib.Core.Path.{refl, sym, ◌∙◌}
 use native.Mathlib.Omega.{arith}
 use lib.ListN.{get_or}
