@@ -1,6 +1,7 @@
 // The arguments of a program as words of their kind, read one by one. A number of them that is not good, and the first that is no word, get a line on standard
 // error.
 #![tactic(auto)]
+
 ghost use Rattle.std.specs.Prelude.{◌≡◌, false, ◌≤◌, ◌<◌, length};
 ghost use Rattle.arguments.specs.declared.Kind.TheVariants.{Ends};
 ghost use Rattle.arguments.specs.Kinds.{most_arguments};

@@ -1,6 +1,7 @@
 // The input of a batch (document 01, "Bench sheet"): T in two bytes, T cells of four bytes, then the image; or, where it has guards (document 02, ask 5), T pairs
 // of them before the image. It is read from standard input, and taken apart.
 #![tactic(auto)]
+
 ghost use Rattle.std.specs.Prelude.{◌≡◌, ◌+◌, ◌*◌, ◌≤◌, ◌<◌, length};
 ghost use Rattle.io.specs.Counts.{IsPrefixLen};
 ghost use Rattle.image.specs.Limits.{max_cells};

@@ -11,7 +11,7 @@ use Rattle.from_arguments.proofs.read.Goals as goal
 pub read_words-requires : goal.read_words-requires
 read_words-requires g c =
     let few : c.count-n.result ≤ most_arguments c.args.kind =
-        c.complains_of_count.ensures c.if-complains_of_count.false in
+    c.complains_of_count.ensures c.if-complains_of_count.false in
     let n = c.count-n.result in
     let whole : n - 0 ≡ n = omega arith in
     rw (whole, length-take-le n c.args.list.now (omega (arith, few, c.requires))) (omega (arith, few, most_ends c.args.kind))
@@ -19,5 +19,5 @@ read_words-requires g c =
 pub returns-then-read_words : goal.returns-then-read_words
 returns-then-read_words g c =
     let few : c.count-n.result ≤ most_arguments c.args.kind =
-        c.complains_of_count.ensures c.if-complains_of_count.false in
+    c.complains_of_count.ensures c.if-complains_of_count.false in
     (few, search rules)
