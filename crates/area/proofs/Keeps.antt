@@ -1,17 +1,13 @@
 -- Each change keeps what check 7 asks, and with it all that the checks 1 to 7 have shown: a whole batch has to check once. Assumes nothing.
 use Prim.Native.Nat.{ℕ, ◌+◌, ◌≤◌, ◌<◌}
 use mathlib.Core.Path.{◌≡◌, sym, subst, ◌∙◌}
-use mathlib.Core.Logic.{◌⊎◌, inl, inr}
-use mathlib.Core.Bool.{true, false, cond, ◌||◌}
+use mathlib.Core.Bool.{true}
 use mathlib.Core.List.{List, [], ◌∷◌}
 use native.Mathlib.Omega.{arith}
 use native.Mathlib.Decide.{dec_lt, ℕ_discrete}
 use lib.ListN.{length, get_or, set, replicate, length-replicate}
-use lib.Dec.{eqb, ltb}
 use lib.Seq.{get_or-set_same, get_or-set_other, set_out}
-use borrow.Author.Tests.{ltb-false}
 use Rattle.base.specs.Words.{has, words}
-use Rattle.base.proofs.Bools.{known, or_false}
 use Rattle.base.proofs.Parts.{words_agree}
 use Rattle.image.specs.Image.{count_of}
 use Rattle.slot.specs.States.{last_state}
@@ -24,6 +20,7 @@ use Rattle.area.specs.Marks.{mark_of, lower, reserve}
 use Rattle.area.specs.Checks.{open_refusal, Checked}
 use Rattle.area.proofs.Views.{slot_word, slot_sized}
 use Rattle.area.proofs.Changes.{slot_own, slot_other, slot_marks, state_own, state_other, state_marks, reserve_slot}
+use Rattle.area.proofs.MarkBounds.{lower_few}
 use Rattle.area.proofs.Checks.{SlotPassed, Passed, passed_good, open_shows, few}
 
 same_passed : (T : ℕ) (s s' : List ℕ) → s' ≡ s → SlotPassed T s → SlotPassed T s'
@@ -87,15 +84,6 @@ state_keeps T n k state detail a sized l few p =
     }
 
 -- ---- reservations
-
--- a mark is not raised above the program's own
-lower_few : (mark mine : ℕ) → lower mark mine ≤ mine
-unfolding lower
-lower_few mark mine = go (known (eqb mark 0 || ltb mine mark))
-  where
-    go : (eqb mark 0 || ltb mine mark ≡ true) ⊎ (eqb mark 0 || ltb mine mark ≡ false) → cond (eqb mark 0 || ltb mine mark) mine mark ≤ mine
-    go (inl e) = rw e (omega arith)
-    go (inr e) = rw e (ltb-false mine mark (or_false (eqb mark 0) (ltb mine mark) e).1)
 
 set_few : (a : List ℕ) (i v n j : ℕ) → v ≤ n → get_or a j 0 ≤ n → get_or (set a i v) j 0 ≤ n
 set_few a i v n j h g = go (ℕ_discrete j i) (dec_lt i (length a))

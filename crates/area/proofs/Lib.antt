@@ -2,6 +2,7 @@ pub mod Views
 pub mod Marks
 pub mod Changes
 pub mod Checks
+pub mod MarkBounds
 pub mod Keeps
 pub mod Loops
 pub mod Places

@@ -1,9 +1,9 @@
--- The laws of signed numbers and guards: the code's comparison is the signed one, and the full range lets every word in. Assumes nothing.
+-- The laws of signed numbers and guards: the code's comparison is the signed one, and the list that is made for the full range has it. Assumes nothing.
 use Rattle.std.proofs.Common.{◌≡◌, ℕ, suc, ◌+◌, ◌-◌, ◌*◌, ◌%◌, ◌^◌, ◌<◌, ◌≤◌, Bool, true, false, not, ltb, List, pos, negsuc, sym, refl, ◌∙◌, arith, ltb-false, ltb-true, le-ltb, lt-ltb, eq-eqb, ne_eqb}
 use lib.Signed.{lt_z}
 use Rattle.base.proofs.Tables.{tabulate_at}
 use Rattle.guard.specs.Signed.{signed, lowest, highest}
-use Rattle.guard.specs.Guards.{low_of, high_of, admits, FullAt, Full, full_end, full_range}
+use Rattle.guard.specs.Guards.{low_of, high_of, admits, Full, full_end, full_range}
 
 -- ---- a word read as a signed number
 
@@ -60,18 +60,13 @@ signed_order x y k l = go (ltb x half) (ltb y half) refl refl
 -- ---- the full range
 
 -- no word is below the smallest number, and none above the largest
-none_lower : (v : ℕ) → v < word → lt_z (signed v) (signed lowest) ≡ false
+pub none_lower : (v : ℕ) → v < word → lt_z (signed v) (signed lowest) ≡ false
 none_lower v h = signed_order v lowest h (omega arith) ∙ le-ltb (moved v) (moved lowest) (omega arith)
 
-none_higher : (v : ℕ) → v < word → lt_z (signed highest) (signed v) ≡ false
+pub none_higher : (v : ℕ) → v < word → lt_z (signed highest) (signed v) ≡ false
 none_higher v h = signed_order highest v (omega arith) h ∙ le-ltb (moved highest) (moved v) (omega arith)
 
--- the full range lets every word in
-pub full_admits : (g : List ℕ) (c v : ℕ) → FullAt g c → v < word → admits g c v ≡ true
-unfolding admits
-full_admits g c v f h = rw (f.low_is, f.high_is, none_lower v h, none_higher v h)
-
--- and the list that is made for it has it, for every cell whose pair lies in it
+-- the list that is made for the full range has it, for every cell whose pair lies in it
 pub full_range_lem : (n T : ℕ) → 2 * T ≤ n → Full T (full_range n)
 unfolding full_end
 full_range_lem n T h c l =

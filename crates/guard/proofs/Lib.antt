@@ -1,3 +1,4 @@
 pub mod Laws
+pub mod Admitted
 pub mod Unique
 pub mod Cases

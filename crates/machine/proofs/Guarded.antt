@@ -2,7 +2,7 @@
 use Rattle.std.proofs.Common.{◌≡◌, ℕ, zero, suc, ◌^◌, ◌<◌, Bool, true, false, cond, ltb, List, length, get_or, refl, arith, ltb-true}
 use Rattle.image.specs.Instruction.{instructions_of}
 use Rattle.guard.specs.Guards.{admits, Full}
-use Rattle.guard.proofs.Laws.{full_admits}
+use Rattle.guard.proofs.Admitted.{full_admits}
 use Rattle.slot.specs.Log.{Log, empty, loaded, with_read, with_store}
 use Rattle.machine.specs.declared.Machine.{Machine}
 use Rattle.machine.specs.declared.Run.TheVariants.{Finished, Rejected, Faulted}

@@ -1,20 +1,26 @@
 -- How long a sentence is whose numbers have 32 bits, so that one with a sign has at most 11 characters: none is longer than that of reason 3. The lengths
 -- of the texts are computed. Assumes nothing.
-use Prim.Native.Nat.{ℕ, ◌+◌, ◌*◌, ◌≤◌, ◌<◌}
+use Prim.Native.Nat.{ℕ, ◌+◌, ◌-◌, ◌*◌, ◌≤◌, ◌<◌}
+use mathlib.Core.Path.{◌≡◌}
+use mathlib.Core.Logic.{◌⊎◌, inl, inr}
 use mathlib.Core.Bool.{Bool, true, false, cond}
 use mathlib.Core.List.{List, [], ◌∷◌, ◌++◌}
 use native.Mathlib.Omega.{arith}
-use lib.Dec.{eqb}
+use lib.Dec.{eqb, ltb}
 use lib.ListN.{length, length-append}
+use borrow.Author.Tests.{ltb-true, ltb-false}
+use Rattle.base.proofs.Bools.{known}
 use Rattle.text.specs.Ascii.{ascii}
 use Rattle.text.specs.Filled.{filled}
+use Rattle.text.proofs.Decimals.{decimal_short}
 use Rattle.text.proofs.Fillings.{Words, filled_short}
 use Rattle.machine.specs.declared.Store.{Store}
 use Rattle.causes.specs.declared.answers.Cause.{Cause}
 use Rattle.sentences.specs.Sentences.{committed_line, waw_line, raw_line, raw_with_war_line, rejected_line, load_fault_line, store_fault_line, guard_fault_line}
 use Rattle.sentences.specs.Sentences.{free, turned, waw, raw, raw_with_war, more_batches, again, rejected, load_fault, store_fault, longest_reason, longest_again}
-use Rattle.sentences.specs.Sentences.{then_signed, not_admitted, guard_fault}
-use Rattle.sentences.proofs.Signs.{signed_short}
+use Rattle.sentences.specs.Sentences.{signed_text, then_signed, not_admitted, guard_fault}
+use Rattle.guard.proofs.Laws.{half, word}
+use Rattle.sentences.proofs.Signs.{no_sign, minus_sign}
 
 abbrev pub Small : ℕ → Type 0
 Small n = n < 4294967296
@@ -81,6 +87,16 @@ more_short batches b = either_short _ _ (omega arith) _ (eqb batches 1) (16 + 10
 pub again_short : (place batches : ℕ) → Small place → Small batches → length (again place batches) ≤ longest_again
 unfolding again
 again_short place batches p b = then_short _ _ (omega arith) (87 + 10) (omega arith) _ (16 + 10) (more_short batches b)
+
+-- a word as a signed number: at most a minus and ten digits
+pub signed_short : (w : ℕ) → w < word → length (signed_text w) ≤ 11
+signed_short w l = go (known (ltb w half))
+  where
+    go : (ltb w half ≡ true) ⊎ (ltb w half ≡ false) → length (signed_text w) ≤ 11
+    go (inl e) = rw (no_sign w (ltb-true w half e)) (omega (arith, decimal_short w l))
+    go (inr e) =
+        let h = ltb-false w half e in
+        rw (minus_sign w h l, length-append) (omega (arith, decimal_short (word - w) (omega arith)))
 
 -- a store that a guard did not admit
 then_signed_short : (s ns : List ℕ) (w : ℕ) → Words ns → Small w → length (then_signed s ns w) ≤ length s + 10 * length ns + 11

@@ -74,7 +74,7 @@ module _ {image fresh : List ℕ} {n mask m programs all rule : ℕ} (s : Source
             whole : {v : List ℕ} {r : ℕ} → Wrote w at (joined new) v r → Wrote out 0 (image_from image n mask fresh m) v r
             whole y = rw (← image_is) (image_wrote headed ended (wrote_both old new (bytes_room headed ended) x y))
 
--- ---- the needs
+-- ---- the goals
 
 pub put_header-to-requires : goal.put_header-to-requires
 put_header-to-requires c =
