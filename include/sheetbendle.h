@@ -51,7 +51,7 @@
  * from the caller's frame down, with the arguments that lie there and the return address:
  *
  *     program   program_refusal   open   gather   settle   why   order   next_image   image_of   sheet_of
- *         202               186    218      634      330   314    1082          346        380        336
+ *         177               161    225      529      305   257    1041          321        416        280
  *
  * bench/run measures it, on x86-64, with the inputs that take the most, and tests/needs holds this
  * table to it. Where memcpy and memset are called, 100 of these bytes are left for their own.
