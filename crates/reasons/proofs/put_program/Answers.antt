@@ -1,13 +1,9 @@
 -- The tests say which case of the definition it is; what it says is then written. Assumes nothing.
-use mathlib.Core.Path.{◌≡◌, sym, ◌∙◌}
+use mathlib.Core.Path.{sym, ◌∙◌}
 use Prim.Native.Nat.{◌<◌}
 use native.Mathlib.Omega.{arith}
 use lib.ListN.{length}
 use Rattle.image.specs.Limits.{max_programs}
-use Rattle.image.specs.Refusals as refusal
-use Rattle.sentences.specs.Sentences.{rejected}
-use Rattle.refused.specs.Refused.{refused_line}
-use Rattle.reasons.specs.Reasons.{committed_text, carried_text, faulted_text, ended_text}
 use Rattle.reasons.proofs.Pages.{place_low, says_rejected, says_faulted, says_committed, says_carried, says_not_ended}
 use Rattle.reasons.proofs.put_program.Goals as goal
 

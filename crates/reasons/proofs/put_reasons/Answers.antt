@@ -6,7 +6,7 @@ use Prim.Native.Nat.{ℕ}
 use lib.ListN.{length}
 use native.Mathlib.Omega.{arith}
 use borrow.Author.Rules.{rules}
-use Rattle.text.specs.Writing.{Room, Wrote}
+use Rattle.text.specs.Writing.{Room}
 use Rattle.text.proofs.Writing.{wrote_none, room_first, room_then, wrote_both}
 use Rattle.text.proofs.Fillings.{texts_none, text_room, text_turn}
 use Rattle.image.specs.Image.{count_of}

@@ -4,7 +4,7 @@ use mathlib.Core.List.{List, [], ◌∷◌, ◌++◌}
 use Prim.Native.Nat.{ℕ}
 use Rattle.text.specs.Ascii.{ascii}
 use Rattle.text.specs.Filled.{filled}
-use Rattle.text.specs.Writing.{Room, Wrote}
+use Rattle.text.specs.Writing.{Room}
 use Rattle.area.specs.Layout.{state_of, detail_of}
 use Rattle.results.specs.Listing.{word_of, program_line}
 use Rattle.results.proofs.Lines.{program_is, first_fits, second_fits, third_fits, wrote_three}

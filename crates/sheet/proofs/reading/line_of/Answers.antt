@@ -2,7 +2,6 @@
 use mathlib.Core.Path.{◌≡◌, sym, ◌∙◌}
 use Prim.Native.Nat.{ℕ, ◌≤◌, ◌<◌}
 use native.Mathlib.Omega.{arith}
-use lib.ListN.{length}
 use Rattle.base.specs.Words.{words}
 use Rattle.sheet.proofs.ReadingLines.{one_word, two_words, three_words, four_words, more_words}
 use Rattle.sheet.proofs.reading.line_of.Goals as goal
@@ -12,51 +11,39 @@ less h k = omega arith
 
 pub returns-then-first-text : goal.returns-then-first-text
 unfolding words
-returns-then-first-text c =
-    c.program_line.ensures ∙ sym (one_word (c.args.text.now) c.part_end-first.result c.part_end-first.ensures c.if-first-text.true)
+returns-then-first-text c = c.program_line.ensures ∙ sym (one_word _ _ c.part_end-first.ensures c.if-first-text.true)
 
 pub returns-then-second-text : goal.returns-then-second-text
 unfolding words
 returns-then-second-text c =
-    let more-than-one : c.part_end-first.result < length (c.args.text.now) =
-    less c.part_end-first.ensures.within c.if-first-text.false in
-    c.rule_line.ensures
-    ∙ sym (two_words (c.args.text.now) c.part_end-first.result c.part_end-first.ensures more-than-one c.part_end-second.result c.part_end-second.ensures c.if-second-text.true)
+    let first = c.part_end-first.ensures in
+    c.rule_line.ensures ∙ sym (two_words _ _ first (less first.within c.if-first-text.false) _ c.part_end-second.ensures c.if-second-text.true)
 
 pub returns-then-third-text : goal.returns-then-third-text
 returns-then-third-text c =
-    let more-than-one : c.part_end-first.result < length (c.args.text.now) =
-    less c.part_end-first.ensures.within c.if-first-text.false in
-    let more-than-two : c.part_end-second.result < length (c.args.text.now) =
-    less c.part_end-second.ensures.within c.if-second-text.false in
+    let first = c.part_end-first.ensures in
+    let second = c.part_end-second.ensures in
     sym
-    (three_words (c.args.text.now) c.part_end-first.result c.part_end-first.ensures more-than-one c.part_end-second.result c.part_end-second.ensures more-than-two
-    c.part_end-third.result c.part_end-third.ensures c.if-third-text.true)
+    (three_words _ _ first (less first.within c.if-first-text.false) _ second (less second.within c.if-second-text.false)
+    _ c.part_end-third.ensures c.if-third-text.true)
 
 pub returns-then-fourth-text : goal.returns-then-fourth-text
 returns-then-fourth-text c =
-    let more-than-one : c.part_end-first.result < length (c.args.text.now) =
-    less c.part_end-first.ensures.within c.if-first-text.false in
-    let more-than-two : c.part_end-second.result < length (c.args.text.now) =
-    less c.part_end-second.ensures.within c.if-second-text.false in
-    let more-than-three : c.part_end-third.result < length (c.args.text.now) =
-    less c.part_end-third.ensures.within c.if-third-text.false in
-    let q = c.part_end-fourth in
+    let first = c.part_end-first.ensures in
+    let second = c.part_end-second.ensures in
+    let third = c.part_end-third.ensures in
+    let fourth = c.part_end-fourth.ensures in
     sym
-    (more_words (c.args.text.now) c.part_end-first.result c.part_end-first.ensures more-than-one c.part_end-second.result c.part_end-second.ensures more-than-two
-    c.part_end-third.result c.part_end-third.ensures more-than-three q.result q.ensures (less q.ensures.within c.if-fourth-text.true))
+    (more_words _ _ first (less first.within c.if-first-text.false) _ second (less second.within c.if-second-text.false)
+    _ third (less third.within c.if-third-text.false) _ fourth (less fourth.within c.if-fourth-text.true))
 
 pub returns : goal.returns
 unfolding words
 returns c =
-    let more-than-one : c.part_end-first.result < length (c.args.text.now) =
-    less c.part_end-first.ensures.within c.if-first-text.false in
-    let more-than-two : c.part_end-second.result < length (c.args.text.now) =
-    less c.part_end-second.ensures.within c.if-second-text.false in
-    let more-than-three : c.part_end-third.result < length (c.args.text.now) =
-    less c.part_end-third.ensures.within c.if-third-text.false in
-    let q = c.part_end-fourth in
+    let first = c.part_end-first.ensures in
+    let second = c.part_end-second.ensures in
+    let third = c.part_end-third.ensures in
     rw
-    (four_words (c.args.text.now) c.part_end-first.result c.part_end-first.ensures more-than-one c.part_end-second.result c.part_end-second.ensures more-than-two
-    c.part_end-third.result c.part_end-third.ensures more-than-three q.result q.ensures c.if-fourth-text.false)
+    (four_words _ _ first (less first.within c.if-first-text.false) _ second (less second.within c.if-second-text.false)
+    _ third (less third.within c.if-third-text.false) _ c.part_end-fourth.ensures c.if-fourth-text.false)
     c.instruction_line.ensures
