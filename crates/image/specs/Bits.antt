@@ -1,8 +1,8 @@
 -- How the code tests the bytes of an instruction at once: the kinds by the bits that are 0 in a good byte. Nothing of it is to be believed: the proof of
 -- `instruction_good` compares it with the table. Assumes nothing.
-use Rattle.std.specs.Prelude.{ℕ, ◌+◌, ◌*◌, ◌≡◌, Bool, cond}
+use Rattle.std.specs.Prelude.{ℕ, ◌+◌, ◌*◌, ◌≡◌, Bool, cond, Option, Some, None}
 use Rattle.image.specs.declared.instruction.Row.{Row}
-use Rattle.image.specs.Instruction.{Kind, register, unused, skip, free, known, kinds_of}
+use Rattle.image.specs.Instruction.{Kind, Kinds, register, unused, skip, free, known, kinds_of}
 
 -- a register is below 8, an unused byte is 0, a skip's length is below 32
 unfoldable pub zeros : Kind → ℕ
@@ -19,9 +19,12 @@ packed op a b c = op + 256 * a + 65536 * b + 16777216 * c
 unfoldable pub bits_of : ℕ → ℕ
 bits_of op = cond (known op) (packed 240 (zeros (kinds_of op).a) (zeros (kinds_of op).b) (zeros (kinds_of op).c)) 255
 
--- the row of an operation, as the code has it
-unfoldable pub row_of : ℕ → Row
-row_of op = record { known = known op; a = zeros (kinds_of op).a; b = zeros (kinds_of op).b; c = zeros (kinds_of op).c }
+-- the row of an operation, as the code has it; none of one that is not known
+abbrev pub kinds_row : Kinds → Row
+kinds_row k = record { a = zeros k.a; b = zeros k.b; c = zeros k.c }
+
+unfoldable pub row_of : ℕ → Option Row
+row_of op = cond (known op) (Some (kinds_row (kinds_of op))) None
 
 -- an answer about a byte whose kind the code has so: it is that of the test of this kind
 pub record ByKind (kind : ℕ) (test : Kind → Bool) (r : Bool) : Type 0 where

@@ -1,13 +1,16 @@
 -- Document 01, "The image: counts and offsets": which lists of bytes are an image, which refusal the others get, and which part of the image a
 -- program is. Assumes nothing.
-use Rattle.std.specs.Prelude.{ℕ, ◌+◌, ◌-◌, ◌*◌, ◌%◌, ◌≤◌, Bool, ◌&&◌, List, [], ◌≡◌, length, get_or, ltb, leb, eqb}
+use Rattle.std.specs.Prelude.{ℕ, ◌+◌, ◌-◌, ◌*◌, ◌%◌, ◌≤◌, Bool, ◌&&◌, List, [], ◌≡◌, length, get_or, ltb, leb, eqb, Result}
 use Rattle.std.specs.Borrow.{Bor}
 use Rattle.base.specs.Words.{every, words}
 use Rattle.image.specs.declared.Image.{Image}
 use Rattle.image.specs.Limits.{max_programs, instruction_bytes, max_program_bytes, head_bytes, min_bytes, max_bytes}
-use Rattle.image.specs.declared.Refusal.{Refusal}
-use Rattle.image.specs.Refusals as refusal
-use Rattle.image.specs.Refusals.{check, passes, after, unless}
+use Rattle.image.specs.declared.refusals.BadInstruction.{BadInstruction}
+use Rattle.image.specs.declared.refusals.ImageRefusal.{ImageRefusal}
+use Rattle.image.specs.declared.refusals.ImageRefusal.TheVariants.{Size, Header, Offsets, Instruction}
+use Rattle.image.specs.declared.refusals.Refusal.{Refusal}
+use Rattle.image.specs.declared.refusals.Refusal.TheVariants as refusal
+use Rattle.image.specs.Refusals.{passed, check, after, given_as, unless}
 use Rattle.image.specs.Instruction.{program_good, code_fault}
 
 -- the byte at a place, 0 past the end
@@ -91,24 +94,27 @@ offsets_good image = holds_offsets image && first_good image && extents_good ima
 unfoldable pub code_good : List ℕ → Bool
 code_good image = every (count_of image) (λ p. program_good (part_of image p))
 
-unfoldable pub code_refusal : List ℕ → Refusal
+unfoldable pub code_refusal : List ℕ → Result (Unit {0}) BadInstruction
 code_refusal image = code_fault (count_of image) (part_of image)
 
 -- The refusal of an image: of the first of the checks 1 to 4 that fails, where 4 is one of 41 to 44.
-unfoldable pub refusal_of : List ℕ → Refusal
+unfoldable pub refusal_of : List ℕ → Result (Unit {0}) ImageRefusal
 refusal_of image =
-    check (size_good image) refusal.image_size
-    (check (header_good (header_of image)) refusal.header
-    (check (offsets_good image) refusal.offsets
-    (code_refusal image)))
+    check (size_good image) Size
+    (check (header_good (header_of image)) Header
+    (check (offsets_good image) Offsets
+    (given_as Instruction (code_refusal image))))
 
--- "21–24: as 1–4, for the fresh image", "24 by 61 to 64"
-unfoldable pub fresh_refusal_of : List ℕ → Refusal
-fresh_refusal_of image = check (passes (refusal_of image)) (refusal.of_fresh (refusal_of image)) refusal.none
+-- the same as that of a call which is lent the image, and of one whose fresh image it is: "21–24: as 1–4, for the fresh image", "24 by 61 to 64"
+abbrev pub image_checks : List ℕ → Result (Unit {0}) Refusal
+image_checks image = given_as refusal.Image (refusal_of image)
+
+unfoldable pub fresh_refusal_of : List ℕ → Result (Unit {0}) Refusal
+fresh_refusal_of image = given_as refusal.Fresh (refusal_of image)
 
 -- Handing back program p: "checks 1 to 4 and 8".
-unfoldable pub program_refusal_of : List ℕ → ℕ → Refusal
-program_refusal_of image p = after (refusal_of image) (check (ltb p (count_of image)) refusal.number refusal.none)
+unfoldable pub program_refusal_of : List ℕ → ℕ → Result (Unit {0}) Refusal
+program_refusal_of image p = after (image_checks image) (check (ltb p (count_of image)) refusal.Number passed)
 
 -- "returns the part alone, empty on a refusal": its bytes, and where in the image it begins
 unfoldable pub program_of : List ℕ → ℕ → List ℕ
@@ -127,5 +133,5 @@ pub record ProgramSays (image : Bor (List ℕ)) (p : ℕ) (r : Bor (List ℕ)) :
   pub part : Part image (start_of image.now p) (program_of image.now p) r
 
 -- "a second call on the same two returns the refusal's number, or 0"
-pub record ProgramRefusalSays (image : List ℕ) (p : ℕ) (r : Refusal) : Type 0 where
+pub record ProgramRefusalSays (image : List ℕ) (p : ℕ) (r : Result (Unit {0}) Refusal) : Type 0 where
   pub answer : r ≡ program_refusal_of image p

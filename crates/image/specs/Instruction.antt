@@ -1,11 +1,12 @@
 -- Document 01, "Instructions": what the bytes of an instruction have to be, where it stands; and document 02, ask 2, "Which instruction is bad?". What a
 -- good one does is the machine's. Assumes nothing.
-use Rattle.std.specs.Prelude.{ℕ, ◌+◌, ◌*◌, ◌/◌, Bool, true, cond, ◌&&◌, List, [], ◌∷◌, length, get_or, ltb, leb, eqb}
+use Rattle.std.specs.Prelude.{ℕ, ◌+◌, ◌*◌, ◌/◌, Bool, true, cond, ◌&&◌, List, [], ◌∷◌, length, get_or, ltb, leb, eqb, Result, Ok, Err}
 use Rattle.base.specs.Words.{every}
-use Rattle.image.specs.declared.Refusal.{Refusal}
+use Rattle.image.specs.declared.refusals.Fault.{Fault}
+use Rattle.image.specs.declared.refusals.Fault.TheVariants as fault
+use Rattle.image.specs.declared.refusals.BadInstruction.{BadInstruction}
 use Rattle.image.specs.Limits.{registers, instruction_bytes}
-use Rattle.image.specs.Refusals as refusal
-use Rattle.image.specs.Refusals.{check, passes, placed, first_of}
+use Rattle.image.specs.Refusals.{passed, check, passes, placed, first_of}
 
 -- ---- the table: of what kind each of the three bytes is
 
@@ -76,13 +77,13 @@ each test k a b c = test k.a a && test k.b b && test k.c c
 
 -- The fault of the instruction op a b c at place i of m: "41 unknown operation, 42 register over 7, 43 an unused byte not 0, 44 skip past the end", the
 -- first in this list.
-unfoldable pub fault_of : (op a b c i m : ℕ) → Refusal
+unfoldable pub fault_of : (op a b c i m : ℕ) → Result (Unit {0}) Fault
 fault_of op a b c i m =
-    check (known op) refusal.operation
-    (check (each register_good (kinds_of op) a b c) refusal.register
-    (check (each unused_good (kinds_of op) a b c) refusal.unused
-    (check (each (skip_good i m) (kinds_of op) a b c) refusal.skip
-    refusal.none)))
+    check (known op) fault.Operation
+    (check (each register_good (kinds_of op) a b c) fault.Register
+    (check (each unused_good (kinds_of op) a b c) fault.Unused
+    (check (each (skip_good i m) (kinds_of op) a b c) fault.Skip
+    passed)))
 
 -- "Four bytes: operation, a, b, c." Byte j of instruction i of a program, 0 past the end.
 abbrev pub byte_of : List ℕ → ℕ → ℕ → ℕ
@@ -92,32 +93,32 @@ abbrev pub instructions_of : List ℕ → ℕ
 instructions_of program = length program / instruction_bytes
 
 -- of instruction i of a program
-unfoldable pub fault_at : List ℕ → ℕ → Refusal
+unfoldable pub fault_at : List ℕ → ℕ → Result (Unit {0}) Fault
 fault_at program i = fault_of (byte_of program i 0) (byte_of program i 1) (byte_of program i 2) (byte_of program i 3) i (instructions_of program)
 
--- for those who are to mend it, the byte that is wrong: an unknown operation, or the first of the three that does not pass
+-- for those who are to mend it, the byte that is wrong: an unknown operation, or the first of the three that does not pass; of a good instruction the last
 abbrev pub first_bad : (Kind → ℕ → Bool) → Kinds → (a b c : ℕ) → ℕ
 first_bad test k a b c = cond (test k.a a) (cond (test k.b b) c b) a
 
-unfoldable pub wrong_of : (fault op a b c i m : ℕ) → ℕ
-wrong_of fault op a b c i m =
-    cond (eqb fault (refusal.operation).number) op
-    (cond (eqb fault (refusal.register).number) (first_bad register_good (kinds_of op) a b c)
-    (cond (eqb fault (refusal.unused).number) (first_bad unused_good (kinds_of op) a b c)
-    (first_bad (skip_good i m) (kinds_of op) a b c)))
+unfoldable pub wrong_of : Result (Unit {0}) Fault → (op a b c i m : ℕ) → ℕ
+wrong_of (Err fault.Operation) op a b c i m = op
+wrong_of (Err fault.Register) op a b c i m = first_bad register_good (kinds_of op) a b c
+wrong_of (Err fault.Unused) op a b c i m = first_bad unused_good (kinds_of op) a b c
+wrong_of (Err fault.Skip) op a b c i m = first_bad (skip_good i m) (kinds_of op) a b c
+wrong_of (Ok done) op a b c i m = c
 
 unfoldable pub wrong_byte : List ℕ → ℕ → ℕ
 wrong_byte program i =
-    wrong_of (fault_at program i).number (byte_of program i 0) (byte_of program i 1) (byte_of program i 2) (byte_of program i 3) i (instructions_of program)
+    wrong_of (fault_at program i) (byte_of program i 0) (byte_of program i 1) (byte_of program i 2) (byte_of program i 3) i (instructions_of program)
 
 -- ---- "the first in image order"
 
 -- the first bad instruction of program p, with its fault and its place
-unfoldable pub program_fault : (p : ℕ) → List ℕ → Refusal
+unfoldable pub program_fault : (p : ℕ) → List ℕ → Result (Unit {0}) BadInstruction
 program_fault p program = first_of (instructions_of program) (λ i. placed p i (fault_at program i))
 
 -- the first bad instruction of n programs, of which this is the part of each
-unfoldable pub code_fault : (n : ℕ) → (ℕ → List ℕ) → Refusal
+unfoldable pub code_fault : (n : ℕ) → (ℕ → List ℕ) → Result (Unit {0}) BadInstruction
 code_fault n part = first_of n (λ p. program_fault p (part p))
 
 -- ---- what is good

@@ -5,6 +5,9 @@ ghost use Rattle.image.specs.Refusals.{passes, placed};
 ghost use Rattle.image.specs.Instruction.{register_good, unused_good, skip_good, fault_of, wrong_of, instructions_of, fault_at, wrong_byte, place_good};
 ghost use Rattle.image.specs.Bits.{packed, bits_of, row_of, ByKind};
 
+use crate::Image;
+use crate::refusals::{BadInstruction, Fault};
+
 // The kinds of a byte, each by the bits that are 0 in a good one: a register is below 8, an unused byte is 0, a skip's length is below 32, since no
 // program is longer, and the last kind may be any byte.
 const REGISTER: u8 = 248;
@@ -57,25 +60,27 @@ fn bits_of(op: u8) -> u32
     }
 }
 
-// A row of the table, the kinds of a, b and c; or that there is none.
+// A row of the table, the kinds of a, b and c.
 #[derive(Clone, Copy)]
 struct Row {
-    known: bool,
     a: u8,
     b: u8,
     c: u8,
 }
 
-fn row_of(op: u8) -> Row
+// The row of an operation, where there is one.
+fn row_of(op: u8) -> Option<Row>
     ensures { result ≡ row_of op }
 {
     let bits = bits_of(op);
-    Row {
-        known: bits != UNKNOWN,
+    if bits == UNKNOWN {
+        return None;
+    }
+    Some(Row {
         a: (bits / 256 % 256) as u8,
         b: (bits / 65536 % 256) as u8,
         c: (bits / 16777216 % 256) as u8,
-    }
+    })
 }
 
 // Whether a byte, if it names a register, names one that there is.
@@ -83,7 +88,7 @@ fn register_good(kind: u8, byte: u8) -> bool
     ensures { ByKind kind (λ k. register_good k byte) result }
 {
     if kind == REGISTER {
-        return (byte as usize) < crate::Image::REGISTERS;
+        return (byte as usize) < Image::REGISTERS;
     }
     true
 }
@@ -109,37 +114,41 @@ fn skip_good(i: usize, m: usize, kind: u8, byte: u8) -> bool
     true
 }
 
+// What stands in for the row of an operation that has none: whatever byte is good there.
+const NO_ROW: Row = Row {
+    a: FREE,
+    b: FREE,
+    c: FREE,
+};
+
 // What is wrong with an instruction at place i of m: the first in the list of document 02, or nothing.
-fn fault(op: u8, a: u8, b: u8, c: u8, i: usize, m: usize) -> crate::Refusal
+fn fault(op: u8, a: u8, b: u8, c: u8, i: usize, m: usize) -> Result<(), Fault>
     requires { i < m }
     ensures { result ≡ fault_of op a b c i m }
 {
-    let row = row_of(op);
-    if !row.known {
-        return crate::Refusal::OPERATION;
-    }
+    let row = row_of(op).ok_or(Fault::Operation)?;
     if !all(
         register_good(row.a, a),
         register_good(row.b, b),
         register_good(row.c, c),
     ) {
-        return crate::Refusal::REGISTER;
+        return Err(Fault::Register);
     }
     if !all(
         unused_good(row.a, a),
         unused_good(row.b, b),
         unused_good(row.c, c),
     ) {
-        return crate::Refusal::UNUSED;
+        return Err(Fault::Unused);
     }
     if !all(
         skip_good(i, m, row.a, a),
         skip_good(i, m, row.b, b),
         skip_good(i, m, row.c, c),
     ) {
-        return crate::Refusal::SKIP;
+        return Err(Fault::Skip);
     }
-    crate::Refusal::NONE
+    Ok(())
 }
 
 // Whether an instruction is good: first all bits that have to be 0, at once, and of a skip then where it lands. A known operation is below 16, so that its
@@ -163,39 +172,43 @@ pub fn place_good(program: &[u8], i: usize) -> bool
     requires { (i < instructions_of program.now) × (length program.now ≤ max_program_bytes) }
     ensures { result ≡ place_good program.now i }
 {
-    let at = crate::Image::INSTRUCTION_BYTES * i;
+    let at = Image::INSTRUCTION_BYTES * i;
     instruction_good(
         program[at],
         program[at + 1],
         program[at + 2],
         program[at + 3],
         i,
-        program.len() / crate::Image::INSTRUCTION_BYTES,
+        program.len() / Image::INSTRUCTION_BYTES,
     )
 }
 
-// What is wrong with instruction i of program p, with its place.
-pub fn refused_at(program: &[u8], p: usize, i: usize) -> crate::Refusal
-    requires { (i < instructions_of program.now) × (length program.now ≤ max_program_bytes) × (p < 65536) }
-    ensures { result ≡ placed p i (fault_at program.now i) }
+// What is wrong with instruction i of a program.
+fn fault_at(program: &[u8], i: usize) -> Result<(), Fault>
+    requires { i < instructions_of program.now }
+    ensures { result ≡ fault_at program.now i }
 {
-    let at = crate::Image::INSTRUCTION_BYTES * i;
-    let found = fault(
+    let at = Image::INSTRUCTION_BYTES * i;
+    fault(
         program[at],
         program[at + 1],
         program[at + 2],
         program[at + 3],
         i,
-        program.len() / crate::Image::INSTRUCTION_BYTES,
-    );
-    if found.number == 0 {
-        return crate::Refusal::NONE;
-    }
-    crate::Refusal {
-        number: found.number,
+        program.len() / Image::INSTRUCTION_BYTES,
+    )
+}
+
+// What is wrong with instruction i of program p, with its place.
+pub fn refused_at(program: &[u8], p: usize, i: usize) -> Result<(), BadInstruction>
+    requires { (i < instructions_of program.now) × (length program.now ≤ max_program_bytes) × (p < 65536) }
+    ensures { result ≡ placed p i (fault_at program.now i) }
+{
+    fault_at(program, i).map_err(|fault| BadInstruction {
+        fault,
         program: p as u32,
         instruction: i as u32,
-    }
+    })
 }
 
 // The first of three bytes that does not pass.
@@ -206,27 +219,28 @@ fn first_bad(x: bool, y: bool, a: u8, b: u8, c: u8) -> u8
 }
 
 // The byte that is wrong with an instruction at place i of m, by its fault.
-fn wrong_of(fault: u32, op: u8, a: u8, b: u8, c: u8, i: usize, m: usize) -> u8
+fn wrong_of(found: Result<(), Fault>, op: u8, a: u8, b: u8, c: u8, i: usize, m: usize) -> u8
     requires { i < m }
-    ensures { result ≡ wrong_of fault op a b c i m }
+    ensures { result ≡ wrong_of found op a b c i m }
 {
-    let row = row_of(op);
-    if fault == crate::Refusal::OPERATION.number {
-        return op;
+    let row = row_of(op).unwrap_or(NO_ROW);
+    match found {
+        Err(Fault::Operation) => op,
+        Err(Fault::Register) => {
+            first_bad(register_good(row.a, a), register_good(row.b, b), a, b, c)
+        }
+        Err(Fault::Unused) => first_bad(unused_good(row.a, a), unused_good(row.b, b), a, b, c),
+        Err(Fault::Skip) => {
+            first_bad(
+                skip_good(i, m, row.a, a),
+                skip_good(i, m, row.b, b),
+                a,
+                b,
+                c,
+            )
+        }
+        Ok(()) => c,
     }
-    if fault == crate::Refusal::REGISTER.number {
-        return first_bad(register_good(row.a, a), register_good(row.b, b), a, b, c);
-    }
-    if fault == crate::Refusal::UNUSED.number {
-        return first_bad(unused_good(row.a, a), unused_good(row.b, b), a, b, c);
-    }
-    first_bad(
-        skip_good(i, m, row.a, a),
-        skip_good(i, m, row.b, b),
-        a,
-        b,
-        c,
-    )
 }
 
 // The byte that is wrong with instruction i of a program.
@@ -234,11 +248,14 @@ pub fn wrong_byte(program: &[u8], i: usize) -> u8
     requires { i < instructions_of program.now }
     ensures { result ≡ wrong_byte program.now i }
 {
-    let at = crate::Image::INSTRUCTION_BYTES * i;
-    let op = program[at];
-    let a = program[at + 1];
-    let b = program[at + 2];
-    let c = program[at + 3];
-    let m = program.len() / crate::Image::INSTRUCTION_BYTES;
-    wrong_of(fault(op, a, b, c, i, m).number, op, a, b, c, i, m)
+    let at = Image::INSTRUCTION_BYTES * i;
+    wrong_of(
+        fault_at(program, i),
+        program[at],
+        program[at + 1],
+        program[at + 2],
+        program[at + 3],
+        i,
+        program.len() / Image::INSTRUCTION_BYTES,
+    )
 }

@@ -12,6 +12,7 @@ mod instruction;
 mod refusals;
 
 pub use instruction::wrong_byte;
+pub use refusals::{BadInstruction, Fault, ImageRefusal, Refusal, RefusalNumbers};
 
 // An image's header: how many programs it has, its rule byte and the byte that is 0.
 #[derive(Clone, Copy)]
@@ -62,15 +63,6 @@ impl Image {
             self.zero == 0,
         )
     }
-}
-
-// A refusal: its number in documents 01 and 02, and of a bad instruction its program and its number there, otherwise 0 and 0.
-#[repr(C)]
-#[derive(Clone, Copy)]
-pub struct Refusal {
-    pub number: u32,
-    pub program: u32,
-    pub instruction: u32,
 }
 
 // The byte at a place, 0 past the end.
@@ -184,11 +176,11 @@ pub fn part_of(bytes: &[u8], p: usize) -> &[u8]
 }
 
 // Check 4: it stops at the first bad instruction of the first bad program, and hands out what is wrong with it.
-fn code_refusal(bytes: &[u8], n: usize) -> Refusal
+fn code_refusal(bytes: &[u8], n: usize) -> Result<(), BadInstruction>
     requires { (offsets_good bytes.now ≡ true) × (n ≡ count_of bytes.now) × (n < 65536) }
     ensures { result ≡ code_refusal bytes.now }
 {
-    let mut found = Refusal::NONE;
+    let mut found = Ok(());
     'programs: for p in 0..n {
         let part = part_of(bytes, p);
         let m = part.len() / Image::INSTRUCTION_BYTES;
@@ -203,7 +195,7 @@ fn code_refusal(bytes: &[u8], n: usize) -> Refusal
 }
 
 // The first bad instruction of program p, with what is wrong with it.
-pub fn program_fault(program: &[u8], p: usize) -> Refusal
+pub fn program_fault(program: &[u8], p: usize) -> Result<(), BadInstruction>
     requires { (length program.now ≤ max_program_bytes) × (p < 65536) }
     ensures { result ≡ program_fault p program.now }
 {
@@ -213,7 +205,7 @@ pub fn program_fault(program: &[u8], p: usize) -> Refusal
             return instruction::refused_at(program, p, i);
         }
     }
-    Refusal::NONE
+    Ok(())
 }
 
 // Check 1.
@@ -227,58 +219,47 @@ fn size_good(bytes: &[u8]) -> bool
 }
 
 // The refusal of an image: of the first of the checks 1 to 4 that fails.
-pub fn image_refusal(bytes: &[u8]) -> Refusal
+pub fn image_refusal(bytes: &[u8]) -> Result<(), ImageRefusal>
     ensures { result ≡ refusal_of bytes.now }
 {
     if !size_good(bytes) {
-        return Refusal::IMAGE_SIZE;
+        return Err(ImageRefusal::Size);
     }
     let image = Image::header(bytes);
     if !image.valid() {
-        return Refusal::HEADER;
+        return Err(ImageRefusal::Header);
     }
     let n = image.count as usize;
     if !offsets_good(bytes, n) {
-        return Refusal::OFFSETS;
+        return Err(ImageRefusal::Offsets);
     }
-    code_refusal(bytes, n)
+    code_refusal(bytes, n)?;
+    Ok(())
 }
 
 // The refusal of a fresh image: checks 21 to 23 and 61 to 64.
-pub fn fresh_refusal(bytes: &[u8]) -> Refusal
+pub fn fresh_refusal(bytes: &[u8]) -> Result<(), Refusal>
     ensures { result ≡ fresh_refusal_of bytes.now }
 {
-    let refused = image_refusal(bytes);
-    if refused.number == 0 {
-        return Refusal::NONE;
-    }
-    Refusal {
-        number: Refusal::FRESH + refused.number,
-        program: refused.program,
-        instruction: refused.instruction,
-    }
+    image_refusal(bytes).map_err(Refusal::Fresh)
 }
 
 // Why no program is handed back: checks 1 to 4 and 8.
-pub fn program_refusal(image: &[u8], number: usize) -> Refusal
+pub fn program_refusal(image: &[u8], number: usize) -> Result<(), Refusal>
     ensures { ProgramRefusalSays image.now number result }
 {
-    let refused = image_refusal(image);
-    if refused.number != 0 {
-        return refused;
+    image_refusal(image)?;
+    if count(image) <= number {
+        return Err(Refusal::Number);
     }
-    if number < count(image) {
-        Refusal::NONE
-    } else {
-        Refusal::NUMBER
-    }
+    Ok(())
 }
 
 // The program, as that very part of the image; empty on a refusal.
 pub fn program(image: &[u8], number: usize) -> &[u8]
     ensures { ProgramSays image.entry number result }
 {
-    if program_refusal(image, number).number == 0 {
+    if program_refusal(image, number).is_ok() {
         part_of(image, number)
     } else {
         &image[..0]
@@ -289,7 +270,7 @@ pub fn program(image: &[u8], number: usize) -> &[u8]
 pub fn program_start(image: &[u8], number: usize) -> usize
     ensures { result ≡ start_of image.now number }
 {
-    if program_refusal(image, number).number == 0 {
+    if program_refusal(image, number).is_ok() {
         offset(image, number)
     } else {
         0
