@@ -1,15 +1,15 @@
 // The listed order: document 01, "Listed order".
 #![tactic(auto)]
 
-ghost use Rattle.std.specs.Prelude.{◌≡◌, ◌++◌, ◌+◌, ◌*◌, ◌%◌, ◌^◌, ◌<◌, ◌≤◌, length, take, drop, replicate};
-ghost use Rattle.base.specs.Words.{first, words};
+ghost use Rattle.std.specs.Prelude.{◌≡◌, ◌++◌, ◌+◌, ◌*◌, ◌%◌, ◌^◌, ◌<◌, ◌≤◌, length, take, drop, replicate, All, MatchOption};
+ghost use Rattle.base.specs.Words.{first};
 ghost use Rattle.image.specs.Limits.{max_programs, max_cells};
-ghost use Rattle.area.specs.Layout.{in_group, stores_of};
+ghost use Rattle.area.specs.Layout.{in_group, list_of, stores_of};
 ghost use Rattle.area.specs.Checks.{Measured, Slotted};
 ghost use Rattle.slot.specs.declared.Group.TheVariants.{Committed};
 ghost use Rattle.listing.specs.Listing.{list_refusal, OrderSays, Lists};
 ghost use Rattle.base.specs.Masks.{word_bits};
-ghost use Rattle.listing.specs.Readers.{octet_size, with_bits, bits_for, committed_reads, CellsAt, Octet, ReadersOf, SetIn, Added, Blockers, ToList};
+ghost use Rattle.listing.specs.Readers.{octet_size, with_bits, bits_for, committed_reads, Octet, ReadersOf, SetIn, Added, Blockers, ToList};
 ghost use Rattle.listing.specs.Masks.{free, Picked, Slots};
 
 use image::Refusal;
@@ -20,28 +20,33 @@ const OCTET: usize = 8;
 // For each cell, the programs of a group that read it, a bit each.
 type Readers = [u8; image::Image::CELLS];
 
-// Sets a bit for each of the count cells from the word `at` on.
-fn set_bits(area: &[u32], at: usize, count: usize, bit: u8, readers: &mut Readers)
-    requires { CellsAt at count area.now × (length readers.old ≡ max_cells) }
-    ensures { readers.new ≡ with_bits bit (words at count area.now) readers.old }
+// The cells that program i's list of a kind counts.
+#[tactic(auto, using(crate::proofs::Readers::list_cells), unfolding(area::specs::Layout::list_of, base::specs::Words::words))]
+fn cells_of(area: &[u32], cells: usize, i: usize, list: slot::ListKind) -> &[u32]
+    requires { Slotted cells i area.now }
+    ensures counted { result.now ≡ list_of list cells i area.now }
+    ensures in_table { All (λ c. c < max_cells) result.now }
 {
-    for k in 0..count {
-        let cell = area[at + k] as usize;
-        readers[cell] = readers[cell] | bit;
+    let s = area::span_of(area, cells, i, list);
+    &area[s.at..s.at + s.count]
+}
+
+// Sets a bit for each of the cells.
+fn set_bits(cells: &[u32], bit: u8, readers: &mut Readers)
+    requires { All (λ c. c < max_cells) cells.now × (length readers.old ≡ max_cells) }
+    ensures { readers.new ≡ with_bits bit cells.now readers.old }
+{
+    for cell in cells {
+        readers[*cell as usize] |= bit;
     }
 }
 
-// The bits that are set for one of the count cells from the word `at` on.
-fn bits_for(area: &[u32], at: usize, count: usize, readers: &Readers) -> u8
-    requires { CellsAt at count area.now }
-    ensures { result ≡ bits_for readers.now 0 (words at count area.now) }
+// The bits that are set for one of the cells.
+fn bits_for(cells: &[u32], readers: &Readers) -> u8
+    requires { All (λ c. c < max_cells) cells.now }
+    ensures { result ≡ bits_for readers.now 0 cells.now }
 {
-    let mut found: u8 = 0;
-    for k in 0..count {
-        let cell = area[at + k] as usize;
-        found = found | readers[cell];
-    }
-    found
+    cells.iter().fold(0, |found, cell| found | readers[*cell as usize])
 }
 
 // Whether program i is committed.
@@ -54,15 +59,15 @@ fn is_committed(area: &[u32], cells: usize, i: usize) -> bool
 }
 
 // Program `number`, where it is committed, is marked as a reader of the cells that it reads; its bit says its place in the group.
+#[tactic(auto, using(base::proofs::Masks::shifted_byte), unfolding(crate::specs::Readers::committed_reads))]
 fn add_reader(area: &[u32], cells: usize, number: usize, bit: usize, readers: &mut Readers)
     requires { Slotted cells number area.now × (bit < octet_size) × (length readers.old ≡ max_cells) }
     ensures { readers.new ≡ with_bits (2 ^ bit) (committed_reads cells area.now number) readers.old }
 {
-    if !is_committed(area, cells, number) {
-        return;
+    if is_committed(area, cells, number) {
+        let reads = cells_of(area, cells, number, slot::ListKind::Reads);
+        set_bits(reads, 1 << bit, readers);
     }
-    let s = area::span_of(area, cells, number, slot::ListKind::Reads);
-    set_bits(area, s.at, s.count, 1 << bit, readers);
 }
 
 // The programs of the group that read a cell which program i stores.
@@ -70,8 +75,7 @@ fn readers_of(area: &[u32], cells: usize, i: usize, readers: &Readers) -> u8
     requires { Slotted cells i area.now }
     ensures { result ≡ bits_for readers.now 0 (stores_of cells i area.now) }
 {
-    let s = area::span_of(area, cells, i, slot::ListKind::Stores);
-    bits_for(area, s.at, s.count, readers)
+    bits_for(cells_of(area, cells, i, slot::ListKind::Stores), readers)
 }
 
 // Marks, for each cell, its readers among the programs from start up to end.
@@ -107,8 +111,8 @@ fn add_blockers(
     let mut rest = set;
     while rest != 0 {
         let i = masks::least(rest);
-        blockers[i] = blockers[i] | raised(readers_of(area, cells, i, readers), start);
-        rest = rest & rest - 1;
+        blockers[i] |= raised(readers_of(area, cells, i, readers), start);
+        rest &= rest - 1;
     }
 }
 
@@ -131,13 +135,10 @@ fn add_octet(
 
 // Where the group that begins with program start ends.
 fn octet_end(start: usize, n: usize) -> usize
-    requires { start < n }
+    requires { (start < n) × (n ≤ max_programs) }
     ensures { Octet start result × (result ≤ n) }
 {
-    if n - start < OCTET {
-        return n;
-    }
-    start + OCTET
+    (start + OCTET).min(n)
 }
 
 // Fills in, for each program of a set, the committed programs that read what it stores.
@@ -151,28 +152,25 @@ fn fill_blockers(
     requires { Slots area.now cells n × SetIn cells set area.now × (blockers.old ≡ replicate max_programs 0) }
     ensures { Blockers cells set n area.now blockers.new }
 {
-    let mut start = 0;
-    while start < n {
-        let end = octet_end(start, n);
-        add_octet(area, cells, start, end, set, blockers);
-        start = end;
+    for start in (0..n).step_by(OCTET) {
+        add_octet(area, cells, start, octet_end(start, n), set, blockers);
     }
 }
 
-// 1 + the first program that is left and that no other that is left keeps back; 0 where there is none.
-fn next_free(blockers: &[u64; image::Image::PROGRAMS], left: u64) -> usize
+// The first program that is left and that no other that is left keeps back.
+fn next_free(blockers: &[u64; image::Image::PROGRAMS], left: u64) -> Option<usize>
     requires { left < 2 ^ word_bits }
-    ensures { result ≡ first (free blockers.now left) word_bits }
+    ensures { MatchOption result (first (free blockers.now left) word_bits ≡ 0) (λ i. first (free blockers.now left) word_bits ≡ i + 1) }
 {
     let mut rest = left;
     while rest != 0 {
         let i = masks::least(rest);
         if blockers[i] & (left ^ 1 << i) == 0 {
-            return i + 1;
+            return Some(i);
         }
-        rest = rest & rest - 1;
+        rest &= rest - 1;
     }
-    0
+    None
 }
 
 // Takes programs until none is free; returns how many.
@@ -186,25 +184,14 @@ fn pick_all(
     ensures { Picked n blockers.now all order.new result }
 {
     let mut left = all;
-    let mut taken: usize = 0;
-    while taken < n {
-        let next = next_free(blockers, left);
-        if next == 0 {
+    for (taken, place) in order[..n].iter_mut().enumerate() {
+        let Some(i) = next_free(blockers, left) else {
             return taken;
-        }
-        let i = next - 1;
-        order[taken] = i as u8;
-        left = left ^ 1 << i;
-        taken += 1;
+        };
+        *place = i as u8;
+        left ^= 1 << i;
     }
-    taken
-}
-
-// A byte as a word.
-fn wide(x: u8) -> u32
-    ensures { result ≡ x }
-{
-    x as u32
+    n
 }
 
 // Copies the first n entries of the order to the front of the list.
@@ -212,8 +199,8 @@ fn copy_order(order: &[u8; image::Image::PROGRAMS], n: usize, list: &mut [u32])
     requires { (n ≤ max_programs) × (n ≤ length list.old) × (length order.now ≡ max_programs) }
     ensures { list.new ≡ take n order.now ++ drop n list.old }
 {
-    for k in 0..n {
-        list[k] = wide(order[k]);
+    for (entry, program) in list.iter_mut().zip(&order[..n]) {
+        *entry = u32::from(*program);
     }
 }
 
