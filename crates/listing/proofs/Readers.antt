@@ -1,6 +1,6 @@
 -- The readers of each cell among a group of programs: a turn of each loop, and what the bits say in the end. Assumes nothing.
 use mathlib.Core.Path.{◌≡◌, refl, sym, ◌∙◌, ap}
-use mathlib.Core.Logic.{◌⊎◌, inl, inr}
+use mathlib.Core.Logic.{◌⊎◌, inl, inr, ◌≢◌}
 use mathlib.Core.Bool.{Bool, true, false, cond, ◌||◌}
 use mathlib.Core.List.{List, [], ◌∷◌}
 use Prim.Native.Nat.{ℕ, suc, ◌+◌, ◌-◌, ◌*◌, ◌%◌, ◌^◌, ◌<◌, ◌≤◌}
@@ -13,7 +13,7 @@ use borrow.Author.Tests.{eqb-true, eqb-false, eq-eqb}
 use Rattle.std.specs.List.{All}
 use Rattle.std.proofs.lemmas.List.Elements.{All-from_get_or}
 use Rattle.base.specs.Words.{has, meets, words}
-use Rattle.base.specs.Masks.{word_bits, has_bit, mask_of, Least}
+use Rattle.base.specs.Masks.{word_bits, has_bit, mask_of}
 use Rattle.base.proofs.Bools.{known, clash}
 use Rattle.base.proofs.Masks.{mask_lt, mask_start, mask_next, mask_ext, mask_none, or_masks, bit_set, shifted_byte, bits_in}
 use Rattle.image.specs.Limits.{max_programs, max_cells}
@@ -22,9 +22,10 @@ use Rattle.slot.specs.declared.ListKind.TheVariants.{Reads, Stores}
 use Rattle.slot.specs.declared.Group.TheVariants.{Committed}
 use Rattle.area.specs.Layout.{count_at, in_group, list_of, stores_of}
 use Rattle.area.specs.Checks.{Slotted}
-use Rattle.listing.specs.Masks.{Slots, CommittedSet}
+use Rattle.listing.specs.Masks.{Out, Slots, CommittedSet}
 use Rattle.listing.specs.Readers.{octet_size, with_bits, bits_for, committed_reads, reads_stored, Octet, ReadersOf, SetIn, Added, Blockers}
-use Rattle.listing.proofs.Masks.{bit_below, all_bounded, Within, within_whole, none_in, member_few, within_in, within_out, within_next}
+use Rattle.listing.proofs.Taken.{without_is, without_else}
+use Rattle.listing.proofs.Masks.{bit_below, none_in}
 
 -- ---- the cells of a program
 
@@ -53,7 +54,6 @@ slots_below T n a m s h = record { few = omega (arith, s.few); slotted = λ k l.
 pub committed_in : (T n all : ℕ) (a : List ℕ) → Slots a T n → CommittedSet T n all a → SetIn T all a
 committed_in T n all a s e =
     record {
-      bounded = all_bounded T n all a s.few e;
       slotted = λ i d. s.slotted i (bit_below n (mask_of (in_group Committed T a) n) i (mask_lt (in_group Committed T a) n) (rw e.all_are at d));
     }
 
@@ -164,38 +164,37 @@ blockers_next T programs start end a readers before after s g few r b d =
 
 -- those that are not in the rest have the group's bits, the others are as they were
 pub record Adding (T programs start : ℕ) (a readers before : List ℕ) (rest : ℕ) (l : List ℕ) : Type 0 where
-  pub part : Within rest programs
+  pub part : (k : ℕ) → has_bit rest k ≡ true → has_bit programs k ≡ true
   pub long : length l ≡ max_programs
   pub done : (k : ℕ) → has_bit programs k ≡ true → has_bit rest k ≡ false
       → get_or l k 0 ≡ bit_or (get_or before k 0) ((bits_for readers 0 (stores_of T k a) * 2 ^ start) % 2 ^ word_bits)
   pub still : (k : ℕ) → has_bit rest k ≡ true → get_or l k 0 ≡ get_or before k 0
 
 module _ (T programs start : ℕ) (a readers before : List ℕ) where
-  pub adding_start : programs < 2 ^ word_bits → length before ≡ max_programs → Adding T programs start a readers before programs before
-  adding_start b h = record { part = within_whole programs b; long = h; done = λ k e f. clash e f; still = λ k e. refl }
+  pub adding_start : length before ≡ max_programs → Adding T programs start a readers before programs before
+  adding_start h = record { part = λ k e. e; long = h; done = λ k e f. clash e f; still = λ k e. refl }
 
-  pub adding_end : (rest : ℕ) (l : List ℕ) → Adding T programs start a readers before rest l → rest ≡ 0
-      → Added T programs start a readers before l
-  adding_end rest l t e = record { long = t.long; more = λ i d. t.done i d (none_in rest i e) }
+  module _ (rest : ℕ) (l : List ℕ) (t : Adding T programs start a readers before rest l) where
+    pub adding_end : rest ≡ 0 → Added T programs start a readers before l
+    adding_end e = record { long = t.long; more = λ i d. t.done i d (none_in rest i e) }
 
-  pub adding_next : programs < 2 ^ word_bits → (rest i found v : ℕ) (l : List ℕ) → Adding T programs start a readers before rest l → Least rest i
-      → found ≡ bits_for readers 0 (stores_of T i a) → v ≡ (found * 2 ^ start) % 2 ^ word_bits
-      → Adding T programs start a readers before (bit_and rest (rest - 1)) (set l i (bit_or (get_or l i 0) v))
-  adding_next bounded rest i found v l t m f e =
-      record {
-        part = within_next programs rest i t.part m;
-        long = length-set l i new ∙ t.long;
-        done = λ k d h. go k d (within_out programs rest i t.part m k (bit_below word_bits programs k bounded d) h);
-        still = λ k h.
-            let w = within_in programs rest i t.part m k h in
-            get_or-set_other l i k new 0 w.1 ∙ t.still k w.0;
-      }
-    where
-      new : ℕ
-      new = bit_or (get_or l i 0) v
+    pub adding_next : (i rest' found v : ℕ) → Out rest i rest' → found ≡ bits_for readers 0 (stores_of T i a)
+        → v ≡ (found * 2 ^ start) % 2 ^ word_bits → Adding T programs start a readers before rest' (set l i (bit_or (get_or l i 0) v))
+    adding_next i rest' found v o f e =
+        record {
+          part = λ k b. t.part k (inside k b).0;
+          long = length-set l i new ∙ t.long;
+          done = λ k d b. go k d (without_else i (has_bit rest) k (sym (o.others k) ∙ b));
+          still = λ k b. let w = inside k b in get_or-set_other l i k new 0 w.1 ∙ t.still k w.0;
+        }
+      where
+        new : ℕ
+        new = bit_or (get_or l i 0) v
 
-      go : (k : ℕ) → has_bit programs k ≡ true → (k ≡ i) ⊎ (has_bit rest k ≡ false)
-          → get_or (set l i new) k 0 ≡ bit_or (get_or before k 0) ((bits_for readers 0 (stores_of T k a) * 2 ^ start) % 2 ^ word_bits)
-      go k d (inl q) =
-          rw (q, get_or-set_same l i new 0 (omega (arith, t.long, member_few programs rest i t.part m)), t.still i m.member, e, f)
-      go k d (inr q) = get_or-set_other l i k new 0 (λ z. clash m.member (rw z at q)) ∙ t.done k d q
+        inside : (k : ℕ) → has_bit rest' k ≡ true → (has_bit rest k ≡ true) × (k ≢ i)
+        inside k b = without_is i (has_bit rest) k (sym (o.others k) ∙ b)
+
+        go : (k : ℕ) → has_bit programs k ≡ true → (k ≡ i) ⊎ (has_bit rest k ≡ false)
+            → get_or (set l i new) k 0 ≡ bit_or (get_or before k 0) ((bits_for readers 0 (stores_of T k a) * 2 ^ start) % 2 ^ word_bits)
+        go k d (inl q) = rw (q, get_or-set_same l i new 0 (omega (arith, t.long, o.few)), t.still i o.smallest.member, e, f)
+        go k d (inr q) = get_or-set_other l i k new 0 (λ z. clash o.smallest.member (rw z at q)) ∙ t.done k d q

@@ -43,7 +43,6 @@ pub record ReadersOf (reads : ℕ → List ℕ) (start end : ℕ) (readers : Lis
 
 -- The programs of a set have slots.
 pub record SetIn (T programs : ℕ) (a : List ℕ) : Type 0 where
-  pub bounded : programs < 2 ^ word_bits
   pub slotted : (i : ℕ) → has_bit programs i ≡ true → Slotted T i a
 
 -- Each entry of a set's programs has these bits, from bit start on, besides those that it had.

@@ -7,10 +7,11 @@ ghost use Rattle.image.specs.Limits.{max_programs, max_cells};
 ghost use Rattle.area.specs.Layout.{in_group, list_of, stores_of};
 ghost use Rattle.area.specs.Checks.{Measured, Slotted};
 ghost use Rattle.slot.specs.declared.Group.TheVariants.{Committed};
-ghost use Rattle.listing.specs.Listing.{list_refusal, OrderSays, Lists};
+ghost use Rattle.listing.specs.Listing.{list_refusal, overwritten, OrderSays, Lists};
 ghost use Rattle.base.specs.Masks.{word_bits};
 ghost use Rattle.listing.specs.Readers.{octet_size, with_bits, bits_for, committed_reads, Octet, ReadersOf, SetIn, Added, Blockers, ToList};
-ghost use Rattle.listing.specs.Masks.{free, Picked, Slots};
+ghost use Rattle.listing.specs.Masks.{free, picks, Out, Slots};
+ghost use Rattle.std.specs.Iterator.{at_most};
 
 use image::Refusal;
 
@@ -19,6 +20,28 @@ const OCTET: usize = 8;
 
 // For each cell, the programs of a group that read it, a bit each.
 type Readers = [u8; image::Image::CELLS];
+
+// The programs of a set, one after another, the smallest first.
+#[derive(Drop)]
+struct Members(u64);
+
+impl Iterator for Members {
+    type Item = usize;
+
+    ghost next_gives = { λ s r t. MatchOption r (s.0 ≡ 0) (λ i. Out s.0 i t.0) };
+
+    ghost remaining = { λ s. at_most s.0 };
+
+    #[tactic(auto, using(crate::proofs::Masks::least_out))]
+    fn next(&mut self) -> Option<usize> {
+        if self.0 == 0 {
+            return None;
+        }
+        let i = masks::least(self.0);
+        self.0 &= self.0 - 1;
+        Some(i)
+    }
+}
 
 // The cells that program i's list of a kind counts.
 #[tactic(auto, using(crate::proofs::Readers::list_cells), unfolding(area::specs::Layout::list_of, base::specs::Words::words))]
@@ -50,6 +73,7 @@ fn bits_for(cells: &[u32], readers: &Readers) -> u8
 }
 
 // Whether program i is committed.
+#[tactic(auto, unfolding(area::specs::Layout::in_group))]
 fn is_committed(area: &[u32], cells: usize, i: usize) -> bool
     requires { Slotted cells i area.now }
     ensures { result ≡ in_group Committed cells area.now i }
@@ -108,11 +132,8 @@ fn add_blockers(
     requires { SetIn cells set area.now × (start < word_bits) × (length blockers.old ≡ max_programs) }
     ensures { Added cells set start area.now readers.now blockers.old blockers.new }
 {
-    let mut rest = set;
-    while rest != 0 {
-        let i = masks::least(rest);
+    for i in Members(set) {
         blockers[i] |= raised(readers_of(area, cells, i, readers), start);
-        rest &= rest - 1;
     }
 }
 
@@ -133,14 +154,6 @@ fn add_octet(
     add_blockers(area, cells, start, set, &readers, blockers);
 }
 
-// Where the group that begins with program start ends.
-fn octet_end(start: usize, n: usize) -> usize
-    requires { (start < n) × (n ≤ max_programs) }
-    ensures { Octet start result × (result ≤ n) }
-{
-    (start + OCTET).min(n)
-}
-
 // Fills in, for each program of a set, the committed programs that read what it stores.
 fn fill_blockers(
     area: &[u32],
@@ -153,54 +166,52 @@ fn fill_blockers(
     ensures { Blockers cells set n area.now blockers.new }
 {
     for start in (0..n).step_by(OCTET) {
-        add_octet(area, cells, start, octet_end(start, n), set, blockers);
+        add_octet(area, cells, start, (start + OCTET).min(n), set, blockers);
     }
 }
 
 // The first program that is left and that no other that is left keeps back.
+#[tactic(auto, using(crate::proofs::Masks::unseen_start, crate::proofs::Masks::unseen_found, crate::proofs::Masks::unseen_next, crate::proofs::Masks::unseen_end))]
 fn next_free(blockers: &[u64; image::Image::PROGRAMS], left: u64) -> Option<usize>
-    requires { left < 2 ^ word_bits }
     ensures { MatchOption result (first (free blockers.now left) word_bits ≡ 0) (λ i. first (free blockers.now left) word_bits ≡ i + 1) }
 {
-    let mut rest = left;
-    while rest != 0 {
-        let i = masks::least(rest);
+    for i in Members(left) {
         if blockers[i] & (left ^ 1 << i) == 0 {
             return Some(i);
         }
-        rest &= rest - 1;
     }
     None
 }
 
-// Takes programs until none is free; returns how many.
-fn pick_all(
+// Takes programs until none is free; returns those that are taken, in their order.
+#[tactic(auto, using(crate::proofs::Turns::one_taken, crate::proofs::Turns::none_taken, crate::proofs::Turns::all_taken, base::proofs::Numbers::first_le, base::proofs::Masks::shifted, std::proofs::lemmas::Grind::common_steps))]
+fn pick_all<'a>(
     blockers: &[u64; image::Image::PROGRAMS],
     all: u64,
     n: usize,
-    order: &mut [u8; image::Image::PROGRAMS],
-) -> usize
-    requires { (n ≤ max_programs) × (all < 2 ^ word_bits) × (length order.old ≡ max_programs) }
-    ensures { Picked n blockers.now all order.new result }
+    order: &'a mut [u8; image::Image::PROGRAMS],
+) -> &'a [u8]
+    requires { n ≤ max_programs }
+    ensures { result.now ≡ picks n blockers.now all }
 {
     let mut left = all;
-    for (taken, place) in order[..n].iter_mut().enumerate() {
+    for taken in 0..n {
         let Some(i) = next_free(blockers, left) else {
-            return taken;
+            return &order[..taken];
         };
-        *place = i as u8;
+        order[taken] = i as u8;
         left ^= 1 << i;
     }
-    n
+    &order[..n]
 }
 
-// Copies the first n entries of the order to the front of the list.
-fn copy_order(order: &[u8; image::Image::PROGRAMS], n: usize, list: &mut [u32])
-    requires { (n ≤ max_programs) × (n ≤ length list.old) × (length order.now ≡ max_programs) }
-    ensures { list.new ≡ take n order.now ++ drop n list.old }
+// Copies the order to the front of the list.
+fn copy_order(order: &[u8], list: &mut [u32])
+    requires { length order.now ≤ length list.old }
+    ensures { list.new ≡ overwritten order.now list.old }
 {
-    for (entry, program) in list.iter_mut().zip(&order[..n]) {
-        *entry = u32::from(*program);
+    for (k, program) in order.iter().enumerate() {
+        list[k] = u32::from(*program);
     }
 }
 
@@ -217,12 +228,12 @@ fn list_all(
     ensures { Lists cells n area.now list.old result list.new }
 {
     let mut taken: [u8; image::Image::PROGRAMS] = [0; image::Image::PROGRAMS];
-    let found = pick_all(blockers, all, n, &mut taken);
-    if found != masks::count(all, n) {
+    let order = pick_all(blockers, all, n, &mut taken);
+    if order.len() != masks::count(all, n) {
         return Err(Refusal::NoOrder);
     }
-    copy_order(&taken, found, list);
-    Ok(found)
+    copy_order(order, list);
+    Ok(order.len())
 }
 
 // The same, where checks 1 to 10 have been made.
