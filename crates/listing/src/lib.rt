@@ -56,7 +56,7 @@ fn cells_of(area: &[u32], cells: usize, i: usize, list: slot::ListKind) -> &[u32
 
 // Sets a bit for each of the cells.
 fn set_bits(cells: &[u32], bit: u8, readers: &mut Readers)
-    requires { All (λ c. c < max_cells) cells.now × (length readers.old ≡ max_cells) }
+    requires { All (λ c. c < max_cells) cells.now }
     ensures { readers.new ≡ with_bits bit cells.now readers.old }
 {
     for cell in cells {
@@ -85,7 +85,7 @@ fn is_committed(area: &[u32], cells: usize, i: usize) -> bool
 // Program `number`, where it is committed, is marked as a reader of the cells that it reads; its bit says its place in the group.
 #[tactic(auto, using(base::proofs::Masks::shifted_byte), unfolding(crate::specs::Readers::committed_reads))]
 fn add_reader(area: &[u32], cells: usize, number: usize, bit: usize, readers: &mut Readers)
-    requires { Slotted cells number area.now × (bit < octet_size) × (length readers.old ≡ max_cells) }
+    requires { Slotted cells number area.now × (bit < octet_size) }
     ensures { readers.new ≡ with_bits (2 ^ bit) (committed_reads cells area.now number) readers.old }
 {
     if is_committed(area, cells, number) {
@@ -103,6 +103,7 @@ fn readers_of(area: &[u32], cells: usize, i: usize, readers: &Readers) -> u8
 }
 
 // Marks, for each cell, its readers among the programs from start up to end.
+#[tactic(auto, using(crate::proofs::Readers::readers_next))]
 fn find_readers(area: &[u32], cells: usize, start: usize, end: usize, readers: &mut Readers)
     requires { Slots area.now cells end × Octet start end × (readers.old ≡ replicate max_cells 0) }
     ensures { ReadersOf (committed_reads cells area.now) start end readers.new }
@@ -117,7 +118,7 @@ fn raised(bits: u8, start: usize) -> u64
     requires { start < word_bits }
     ensures { result ≡ (bits * 2 ^ start) % 2 ^ word_bits }
 {
-    (bits as u64) << start
+    u64::from(bits) << start
 }
 
 // Adds, to the readers of what each program of a set stores, those of the group that begins at start.
@@ -129,7 +130,7 @@ fn add_blockers(
     readers: &Readers,
     blockers: &mut [u64; image::Image::PROGRAMS],
 )
-    requires { SetIn cells set area.now × (start < word_bits) × (length blockers.old ≡ max_programs) }
+    requires { SetIn cells set area.now × (start < word_bits) }
     ensures { Added cells set start area.now readers.now blockers.old blockers.new }
 {
     for i in Members(set) {
