@@ -43,6 +43,7 @@ impl Image {
     pub const BYTES: usize = Image::LEAST_BYTES + Image::PROGRAMS * (2 + Image::PROGRAM_BYTES);
 
     // The header of an image, 0 where bytes are missing.
+    #[tactic(auto, unfolding(crate::specs::Image::number_at))]
     pub fn header(bytes: &[u8]) -> Image
         ensures { result ≡ header_of bytes.now }
     {
@@ -106,6 +107,7 @@ pub fn head_bytes(n: usize) -> usize
 }
 
 // Offset p of the image, which stands in it.
+#[tactic(auto, unfolding(crate::specs::Image::number_at))]
 fn offset(bytes: &[u8], p: usize) -> usize
     requires { (head_bytes p ≤ length bytes.now) × (p ≤ 65536) }
     ensures { (result ≡ offset_of bytes.now p) × (result < 65536) }
@@ -126,6 +128,7 @@ fn extent_good(bytes: &[u8], p: usize) -> bool
 }
 
 // Whether that holds of every program.
+#[tactic(auto, unfolding(crate::specs::Image::extents_good))]
 fn extents_good(bytes: &[u8], n: usize) -> bool
     requires { (n ≡ count_of bytes.now) × (head_bytes n ≤ length bytes.now) × (n < 65536) }
     ensures { result ≡ extents_good bytes.now }
@@ -139,6 +142,7 @@ fn extents_good(bytes: &[u8], n: usize) -> bool
 }
 
 // Check 3.
+#[tactic(auto, unfolding(crate::specs::Image::offsets_good))]
 fn offsets_good(bytes: &[u8], n: usize) -> bool
     requires { (n ≡ count_of bytes.now) × (n < 65536) }
     ensures { result ≡ offsets_good bytes.now }
@@ -157,6 +161,7 @@ fn offsets_good(bytes: &[u8], n: usize) -> bool
 }
 
 // The part of the image that program p is.
+#[tactic(auto, unfolding(crate::specs::Image::part_of))]
 pub fn part_of(bytes: &[u8], p: usize) -> &[u8]
     requires { Lies bytes.now p × (p < 65536) }
     ensures { Part bytes.entry (offset_of bytes.now p) (part_of bytes.now p) result }
