@@ -151,7 +151,7 @@ fn store_all(table: &mut [u32], area: &[u32], cells: usize, values: usize, count
 }
 
 // The lowest cell of the program's list of a kind whose mark of a kind names an earlier program, where there is one.
-#[tactic(auto, using(crate::proofs::LowestCells::search_finds))]
+#[tactic(auto, unfolding(crate::specs::Layout::list_of, crate::specs::Marks::lowest))]
 pub fn lowest(
     area: &[u32],
     cells: usize,
@@ -169,7 +169,7 @@ pub fn lowest(
 }
 
 // The program reserves the cells of its list of a kind in the marks of a kind.
-#[tactic(auto, using(crate::proofs::Places::names_list), unfolding(crate::specs::Layout::list_of))]
+#[tactic(auto, unfolding(crate::specs::Layout::list_of))]
 pub fn reserve(area: &mut [u32], cells: usize, number: usize, list: slot::ListKind, marks: MarkKind)
     requires { Slotted cells number area.old }
     ensures { area.new ≡ reserve (marks_at marks cells) (list_of list cells number area.old) number area.old }
@@ -179,7 +179,7 @@ pub fn reserve(area: &mut [u32], cells: usize, number: usize, list: slot::ListKi
 }
 
 // The program's stores go into the table.
-#[tactic(auto, using(crate::proofs::Places::stores_list), unfolding(crate::specs::Layout::list_of, crate::specs::Layout::values_of))]
+#[tactic(auto, unfolding(crate::specs::Layout::list_of, crate::specs::Layout::values_of))]
 pub fn commit(table: &mut [u32], area: &[u32], number: usize)
     requires { Slotted (length table.old) number area.now }
     ensures { table.new ≡ committed_table (length table.old) number area.now table.old }
@@ -221,7 +221,7 @@ pub fn detail(area: &[u32], cells: usize, number: usize) -> u32
 }
 
 // Whether none of n programs has a state below this one.
-#[tactic(auto, using(base::proofs::Numbers::every_none, base::proofs::Numbers::every_more, crate::proofs::Checks::measured_lies), unfolding(crate::specs::Checks::states_from))]
+#[tactic(auto, using(base::proofs::Numbers::every_none, base::proofs::Numbers::every_more), unfolding(crate::specs::Checks::states_from))]
 pub fn states_from(area: &[u32], cells: usize, n: usize, least: u32) -> bool
     requires { Measured cells n area.now }
     ensures { result ≡ states_from least cells n area.now }
@@ -235,7 +235,7 @@ pub fn states_from(area: &[u32], cells: usize, n: usize, least: u32) -> bool
 }
 
 // The programs of a group, a bit each.
-#[tactic(auto, using(base::proofs::Masks::mask_lt, base::proofs::Masks::mask_next, base::proofs::Masks::mask_start, crate::proofs::Checks::measured_lies), unfolding(crate::specs::Layout::in_group))]
+#[tactic(auto, using(base::proofs::Masks::mask_lt, base::proofs::Masks::mask_next), unfolding(crate::specs::Layout::in_group))]
 pub fn members(area: &[u32], cells: usize, n: usize, group: slot::Group) -> u64
     requires { Measured cells n area.now }
     ensures { result ≡ mask_of (in_group group cells area.now) n }
@@ -286,7 +286,7 @@ fn slot_good(area: &[u32], cells: usize, k: usize) -> bool
 }
 
 // And of every slot.
-#[tactic(auto, using(base::proofs::Numbers::every_none, base::proofs::Numbers::every_more, crate::proofs::Checks::measured_lies), unfolding(crate::specs::Checks::slots_good))]
+#[tactic(auto, using(base::proofs::Numbers::every_none, base::proofs::Numbers::every_more), unfolding(crate::specs::Checks::slots_good))]
 fn slots_good(area: &[u32], cells: usize, n: usize) -> bool
     requires { Measured cells n area.now }
     ensures { result ≡ slots_good cells n area.now }
