@@ -10,11 +10,6 @@ use Rattle.image.specs.Instruction.{kinds_of, skip_good, fault_of}
 use Rattle.image.proofs.Bytes.{told_unknown, unknown_bad, bits_and_skip, bits_c}
 use Rattle.image.proofs.instruction.instruction_good.Goals as goal
 
-pub returns-then-bits-eq-UNKNOWN : goal.returns-then-bits-eq-UNKNOWN
-returns-then-bits-eq-UNKNOWN c =
-    let a = c.args in
-    sym (unknown_bad a.op a.a a.b a.c a.i a.m (told_unknown a.op c.bits_of-bits.ensures c.if-bits-eq-UNKNOWN.true))
-
 pub returns-then-packed-bits-ne0 : goal.returns-then-packed-bits-ne0
 returns-then-packed-bits-ne0 c =
     let decided : (let a = c.args in passes (fault_of a.op a.a a.b a.c a.i a.m) ≡ eqb (bit_and c.packed.result c.bits_of-bits.result) 0 && skip_good a.i a.m (kinds_of a.op).c a.c) =
