@@ -12,7 +12,7 @@ use lib.Seq.{get_or-drop}
 use lib.Dec.{leb, ltb, eqb}
 use Rattle.base.specs.Words.{every, words}
 use Rattle.base.proofs.Bools.{and_left, and_both}
-use Rattle.base.proofs.Numbers.{every_at, every_false}
+use Rattle.base.proofs.Numbers.{every_at, every_none, every_more, every_false}
 use Rattle.base.proofs.Parts.{words_length}
 use Rattle.image.specs.Limits.{max_programs, instruction_bytes, max_program_bytes, head_bytes}
 use Rattle.image.specs.declared.refusals.ImageRefusal.TheVariants as refused
@@ -110,6 +110,9 @@ program_bad part i l bad = every_false (instructions_of part) (λ k. place_good 
 pub program_good_lem : (part : List ℕ) (i : ℕ) → i ≡ instructions_of part → every i (λ k. place_good part k) ≡ true → program_good part ≡ true
 unfolding program_good
 program_good_lem part i e h = rw e at h
+
+-- a loop over the programs and their instructions
+pub ruleset program_by_program = (every_none, every_more, lies, part_short, program_good_lem, program_bad, no_code_refusal, code_refused)
 
 -- it passes exactly where every instruction is good
 pub code_good_is : (image : List ℕ) → passes (code_refusal image) ≡ code_good image

@@ -38,7 +38,7 @@ fn packed(op: u8, a: u8, b: u8, c: u8) -> u32
 }
 
 // The bits that are 0 in a good instruction, by its operation: the table, row by row. Operations 9 to 255 are bad.
-#[tactic(auto, using(crate::proofs::Bytes::no_bits), unfolding(crate::specs::Bits::bits_of, crate::specs::Bits::zeros, crate::specs::Instruction::kinds_of, crate::specs::Instruction::known, crate::specs::Instruction::rows))]
+#[tactic(auto, using(crate::proofs::Bytes::no_bits), unfolding(crate::proofs::Bytes::table))]
 fn bits_of(op: u8) -> u32
     ensures { result ≡ bits_of op }
 {
@@ -81,7 +81,7 @@ fn row_of(op: u8) -> Option<Row>
 }
 
 // Whether a byte, if it names a register, names one that there is.
-#[tactic(auto, using(crate::proofs::Bytes::of_this, crate::proofs::Bytes::of_another, crate::proofs::Bytes::asks_register), unfolding(crate::specs::Bits::zeros, crate::specs::Instruction::register_good))]
+#[tactic(auto, using(crate::proofs::Bytes::by_kind), unfolding(crate::specs::Bits::zeros, crate::specs::Instruction::register_good))]
 fn register_good(kind: u8, byte: u8) -> bool
     ensures { ByKind kind (λ k. register_good k byte) result }
 {
@@ -92,7 +92,7 @@ fn register_good(kind: u8, byte: u8) -> bool
 }
 
 // Whether a byte, if it is unused, is 0.
-#[tactic(auto, using(crate::proofs::Bytes::of_this, crate::proofs::Bytes::of_another, crate::proofs::Bytes::asks_unused), unfolding(crate::specs::Bits::zeros, crate::specs::Instruction::unused_good))]
+#[tactic(auto, using(crate::proofs::Bytes::by_kind), unfolding(crate::specs::Bits::zeros, crate::specs::Instruction::unused_good))]
 fn unused_good(kind: u8, byte: u8) -> bool
     ensures { ByKind kind (λ k. unused_good k byte) result }
 {
@@ -103,7 +103,7 @@ fn unused_good(kind: u8, byte: u8) -> bool
 }
 
 // Whether a byte, if it is the length of a skip at place i of m, stays in the program.
-#[tactic(auto, using(crate::proofs::Bytes::of_this, crate::proofs::Bytes::of_another, crate::proofs::Bytes::asks_skip, crate::proofs::Bytes::lands), unfolding(crate::specs::Bits::zeros, crate::specs::Instruction::skip_good))]
+#[tactic(auto, using(crate::proofs::Bytes::by_kind), unfolding(crate::specs::Bits::zeros, crate::specs::Instruction::skip_good))]
 fn skip_good(i: usize, m: usize, kind: u8, byte: u8) -> bool
     requires { i < m }
     ensures { ByKind kind (λ k. skip_good i m k byte) result }
@@ -153,7 +153,7 @@ fn fault(op: u8, a: u8, b: u8, c: u8, i: usize, m: usize) -> Result<(), Fault>
 
 // Whether an instruction is good: first all bits that have to be 0, at once, and of a skip then where it lands. A known operation is below 16, so that its
 // own byte can be one of the four.
-#[tactic(auto, using(crate::proofs::Bytes::told_unknown, crate::proofs::Bytes::unknown_bad, crate::proofs::Bytes::bits_and_skip, crate::proofs::Bytes::bits_c))]
+#[tactic(auto, using(crate::proofs::Bytes::by_bits))]
 fn instruction_good(op: u8, a: u8, b: u8, c: u8, i: usize, m: usize) -> bool
     requires { (i < m) × (m ≤ max_instructions) }
     ensures { result ≡ passes (fault_of op a b c i m) }
@@ -222,7 +222,7 @@ fn first_bad(x: bool, y: bool, a: u8, b: u8, c: u8) -> u8
 }
 
 // The byte that is wrong with an instruction at place i of m, by its fault.
-#[tactic(auto, using(crate::proofs::Bytes::row_or, crate::proofs::Bytes::first_tested), unfolding(crate::specs::Instruction::wrong_of, crate::specs::Bits::zeros))]
+#[tactic(auto, using(crate::proofs::Bytes::by_row), unfolding(crate::specs::Instruction::wrong_of, crate::specs::Bits::zeros))]
 fn wrong_of(found: Result<(), Fault>, op: u8, a: u8, b: u8, c: u8, i: usize, m: usize) -> u8
     requires { i < m }
     ensures { result ≡ wrong_of found op a b c i m }

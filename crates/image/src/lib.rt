@@ -124,11 +124,13 @@ fn extent_good(bytes: &[u8], p: usize) -> bool
 {
     let start = offset(bytes, p);
     let end = offset(bytes, p + 1);
-    start <= end && (end - start) % Image::INSTRUCTION_BYTES == 0 && end - start <= Image::PROGRAM_BYTES
+    start <= end
+        && (end - start) % Image::INSTRUCTION_BYTES == 0
+        && end - start <= Image::PROGRAM_BYTES
 }
 
 // Whether that holds of every program.
-#[tactic(auto, using(base::proofs::Numbers::every_none, base::proofs::Numbers::every_more, base::proofs::Numbers::every_false), unfolding(crate::specs::Image::extents_good))]
+#[tactic(auto, using(base::proofs::Numbers::every_none, base::proofs::Numbers::every_more), unfolding(crate::specs::Image::extents_good))]
 fn extents_good(bytes: &[u8], n: usize) -> bool
     requires { (n ≡ count_of bytes.now) × (head_bytes n ≤ length bytes.now) × (n < 65536) }
     ensures { result ≡ extents_good bytes.now }
@@ -172,7 +174,7 @@ pub fn part_of(bytes: &[u8], p: usize) -> &[u8]
 }
 
 // Check 4: it stops at the first bad instruction of the first bad program, and hands out what is wrong with it.
-#[tactic(auto, using(base::proofs::Numbers::every_none, base::proofs::Numbers::every_more, crate::proofs::Laws::lies, crate::proofs::Laws::part_short, crate::proofs::Laws::program_good_lem, crate::proofs::Laws::program_bad, crate::proofs::Laws::no_code_refusal, crate::proofs::Laws::code_refused))]
+#[tactic(auto, using(crate::proofs::Laws::program_by_program))]
 fn code_refusal(bytes: &[u8], n: usize) -> Result<(), BadInstruction>
     requires { (offsets_good bytes.now ≡ true) × (n ≡ count_of bytes.now) × (n < 65536) }
     ensures { result ≡ code_refusal bytes.now }
@@ -192,7 +194,7 @@ fn code_refusal(bytes: &[u8], n: usize) -> Result<(), BadInstruction>
 }
 
 // The first bad instruction of program p, with what is wrong with it.
-#[tactic(auto, using(base::proofs::Numbers::every_none, base::proofs::Numbers::every_more, crate::proofs::Faults::program_none, crate::proofs::Faults::program_found))]
+#[tactic(auto, using(crate::proofs::Faults::instruction_by_instruction))]
 pub fn program_fault(program: &[u8], p: usize) -> Result<(), BadInstruction>
     requires { (length program.now ≤ max_program_bytes) × (p < 65536) }
     ensures { result ≡ program_fault p program.now }
@@ -215,7 +217,7 @@ fn size_good(bytes: &[u8]) -> bool
 }
 
 // The refusal of an image: of the first of the checks 1 to 4 that fails.
-#[tactic(auto, using(crate::proofs::Refusing::fails, crate::proofs::Refusing::goes_on, crate::proofs::Refusing::given_refuses, crate::proofs::Refusing::given_passing, crate::proofs::Refusing::handed_out), unfolding(crate::specs::Image::refusal_of))]
+#[tactic(auto, using(crate::proofs::Refusing::checking), unfolding(crate::specs::Image::refusal_of))]
 pub fn image_refusal(bytes: &[u8]) -> Result<(), ImageRefusal>
     ensures { result ≡ refusal_of bytes.now }
 {
@@ -242,7 +244,7 @@ pub fn fresh_refusal(bytes: &[u8]) -> Result<(), Refusal>
 }
 
 // Why no program is handed back: checks 1 to 4 and 8.
-#[tactic(auto, using(crate::proofs::Refusing::fails, crate::proofs::Refusing::goes_on, crate::proofs::Refusing::first_refuses, crate::proofs::Refusing::first_passes, crate::proofs::Refusing::given_refuses, crate::proofs::Refusing::given_passing, crate::proofs::Refusing::handed_out), unfolding(crate::specs::Image::program_refusal_of))]
+#[tactic(auto, using(crate::proofs::Refusing::checking), unfolding(crate::specs::Image::program_refusal_of))]
 pub fn program_refusal(image: &[u8], number: usize) -> Result<(), Refusal>
     ensures { ProgramRefusalSays image.now number result }
 {
