@@ -254,7 +254,7 @@ pub fn order_checked(
 }
 
 // Checks 1 to 10.
-#[tactic(auto, unfolding(crate::specs::Listing::list_refusal, image::specs::Refusals::after, image::specs::Refusals::check))]
+#[tactic(auto, using(image::proofs::Refusing::checking), unfolding(crate::specs::Listing::list_refusal))]
 fn list_refusal(
     image: &[u8],
     table: &[u32],
