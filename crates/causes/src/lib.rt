@@ -10,7 +10,6 @@ ghost use Rattle.causes.specs.Why.{told_by, NamesAll, ask_refusal, carried_refus
 mod answers;
 
 pub use answers::{Cause, Why};
-
 use image::Refusal;
 
 // The cause that a cell shows: with it, the program that its mark of a kind names.
@@ -45,12 +44,7 @@ fn with_cause(verdict: steps::Verdict, area: &[u32], cells: usize) -> Result<Why
 
 // Why a program was carried, where the checks up to 13 have been made: the decision is settling's, and its reason has to be the detail.
 #[tactic(auto, using(crate::proofs::Says::other_detail, crate::proofs::Says::same_detail))]
-pub fn why_checked(
-    image: &[u8],
-    table: &[u32],
-    area: &[u32],
-    number: usize,
-) -> Result<Why, Refusal>
+pub fn why_checked(image: &[u8], table: &[u32], area: &[u32], number: usize) -> Result<Why, Refusal>
     requires { Checked image.now table.now area.now × (number < count_of image.now) }
     ensures { Explains image.now table.now area.now number result }
 {
@@ -64,7 +58,7 @@ pub fn why_checked(
 }
 
 // Checks 1 to 9 of a question about one program of a batch that has ended.
-#[tactic(auto, using(image::proofs::Refusing::checking, steps::proofs::Refusals::step_shows, area::proofs::Checks::measured), unfolding(crate::specs::Why::ask_refusal))]
+#[tactic(auto, using(crate::proofs::Refusals::asking), unfolding(crate::specs::Why::ask_refusal))]
 fn ask_refusal(
     image: &[u8],
     table: &[u32],
@@ -82,7 +76,7 @@ fn ask_refusal(
 }
 
 // And 13.
-#[tactic(auto, using(image::proofs::Refusing::checking, crate::proofs::Refusals::ask_shows, area::proofs::Checks::program_lies), unfolding(crate::specs::Why::carried_refusal, area::specs::Layout::in_group))]
+#[tactic(auto, using(crate::proofs::Refusals::carrying), unfolding(crate::specs::Why::carried_refusal, area::specs::Layout::in_group))]
 fn carried_refusal(
     image: &[u8],
     table: &[u32],
@@ -116,7 +110,7 @@ pub fn why(
 }
 
 // RAW of a program, with its cause, where it has one.
-#[tactic(auto, using(crate::proofs::Naming::lowest_names, area::proofs::LowestCells::depends_lowest), unfolding(crate::specs::Why::before_of, crate::specs::Causes::cause_of))]
+#[tactic(auto, using(crate::proofs::Naming::by_cells), unfolding(crate::specs::Why::before_of, crate::specs::Causes::cause_of))]
 fn before_whom(area: &[u32], cells: usize, number: usize) -> Option<Cause>
     requires { Slotted cells number area.now }
     ensures { result ≡ before_of cells number area.now }
