@@ -7,13 +7,24 @@ use Rattle.image.specs.Image.{rule_byte}
 use Rattle.writer.specs.Joined.{image_of}
 use Rattle.writer.specs.Picked.{picked}
 use Rattle.writer.specs.Writing.{Source}
+use Rattle.carry.specs.declared.Chosen.{Chosen}
 
-pub record Sources (image : List ℕ) (n mask : ℕ) (fresh : List ℕ) (m programs : ℕ) : Type 0 where
-  pub old : Source image n mask
-  pub new : Source fresh m (mask_of (λ k. true) m)
-  pub counted : programs ≡ count (has_bit mask) n + m
-  pub few : programs ≤ 2 * max_programs
+-- the mask of all the fresh image's programs
+abbrev pub all_fresh : Chosen → ℕ
+all_fresh c = mask_of (λ k. true) c.m
 
--- the image of both
-unfoldable pub image_from : List ℕ → ℕ → ℕ → List ℕ → ℕ → List ℕ
-image_from image n mask fresh m = image_of (rule_byte fresh) (picked (has_bit mask) image n ++ picked (has_bit (mask_of (λ k. true) m)) fresh m)
+pub record Sources (c : Chosen) : Type 0 where
+  pub old : Source c.image.now c.n c.mask
+  pub new : Source c.fresh.now c.m (all_fresh c)
+  pub counted : c.programs ≡ count (has_bit c.mask) c.n + c.m
+  pub few : c.programs ≤ 2 * max_programs
+
+-- the programs of each of the two, and the image of both
+abbrev pub old_programs : Chosen → List (List ℕ)
+old_programs c = picked (has_bit c.mask) c.image.now c.n
+
+abbrev pub new_programs : Chosen → List (List ℕ)
+new_programs c = picked (has_bit (all_fresh c)) c.fresh.now c.m
+
+unfoldable pub image_from : Chosen → List ℕ
+image_from c = image_of (rule_byte c.fresh.now) (old_programs c ++ new_programs c)
