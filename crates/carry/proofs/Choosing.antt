@@ -4,10 +4,8 @@ use mathlib.Core.List.{List}
 use Prim.Native.Nat.{ℕ, ◌+◌, ◌≤◌}
 use native.Mathlib.Omega.{arith}
 use lib.ListN.{length}
-use denote.Ref.{Bor}
 use Rattle.std.specs.Prelude.{Ok, Err}
-use Rattle.base.specs.Words.{count}
-use Rattle.base.specs.Masks.{has_bit, mask_of}
+use Rattle.base.specs.Masks.{has_bit}
 use Rattle.base.proofs.Counts.{count_le}
 use Rattle.image.specs.declared.refusals.Refusal.{Refusal}
 use Rattle.image.specs.Refusals.{passed}
@@ -15,34 +13,16 @@ use Rattle.image.specs.Image.{count_of}
 use Rattle.image.proofs.Refusing.{first_passes}
 use Rattle.text.specs.Writing.{Wrote}
 use Rattle.writer.proofs.Programs.{good_source}
-use Rattle.slot.specs.declared.Group.TheVariants.{Carried}
-use Rattle.area.specs.Layout.{in_group}
 use Rattle.carry.specs.declared.Chosen.{Chosen}
 use Rattle.carry.specs.Next.{carried_count, next_programs, next_image, lent_refusal, size_refusal, next_refusal, NextSays}
-use Rattle.carry.specs.Sources.{Sources, image_from}
+use Rattle.carry.specs.Sources.{Choice, Sources, image_from}
 use Rattle.carry.proofs.Sources.{carried_counted, carried_programs, fresh_programs}
 use Rattle.carry.proofs.Checks.{lent_shows, size_shows, next_refused, next_done}
 
--- what the call has chosen, once the checks of all that is lent have passed
-pub record Choice (image t g a fresh : List ℕ) (c : Chosen) : Type 0 where
-  pub lent : lent_refusal image t g a fresh ≡ passed
-  pub image_is : c.image.now ≡ image
-  pub fresh_is : c.fresh.now ≡ fresh
-  pub n_is : c.n ≡ count_of image
-  pub m_is : c.m ≡ count_of fresh
-  pub mask_is : c.mask ≡ mask_of (in_group Carried (length t) a) c.n
-  pub counted : c.programs ≡ count (has_bit c.mask) c.n + c.m
-
-pub chosen : (image fresh : Bor (List ℕ)) {t g a : List ℕ} {n m mask old : ℕ} → lent_refusal image.now t g a fresh.now ≡ passed → n ≡ count_of image.now
-    → m ≡ count_of fresh.now → mask ≡ mask_of (in_group Carried (length t) a) n → old ≡ count (has_bit mask) n
-    → Choice image.now t g a fresh.now (record { image = image; n = n; mask = mask; fresh = fresh; m = m; programs = old + m })
-chosen image fresh lent n_is m_is mask_is counted =
-    record { lent = lent; image_is = refl; fresh_is = refl; n_is = n_is; m_is = m_is; mask_is = mask_is; counted = omega (arith, counted) }
-
-module _ {image t g a fresh : List ℕ} {c : Chosen} (k : Choice image t g a fresh c) where
+module _ (image t g a fresh : List ℕ) {c : Chosen} (lent : lent_refusal image t g a fresh ≡ passed) (k : Choice image (length t) a fresh c) where
   pub chosen_sources : Sources c
   chosen_sources =
-      let p = lent_shows image t g a fresh k.lent in
+      let p = lent_shows image t g a fresh lent in
       let old = good_source image p.0.accepted c.n k.n_is c.mask in
       let new = good_source fresh p.1 c.m k.m_is _ in
       record {
@@ -62,7 +42,7 @@ module _ {image t g a fresh : List ℕ} {c : Chosen} (k : Choice image t g a fre
     size_is =
         let many : c.programs ≡ carried_count (length t) (count_of image) a + count_of fresh =
         omega (arith, k.counted, k.m_is, carried_counted (length t) a image k.n_is k.mask_is) in
-        first_passes refl k.lent (rw (image_is, many))
+        first_passes refl lent (rw (image_is, many))
 
     pub chosen_refused : {r : Refusal} → size_refusal c.programs (image_from c) out ≡ Err r → NextSays image t g a fresh out (Err r) out
     chosen_refused e = next_refused image t g a fresh out (sym size_is ∙ e)

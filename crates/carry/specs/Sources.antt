@@ -3,11 +3,22 @@ use Rattle.std.specs.Prelude.{◌≡◌, true, List, ◌++◌, ℕ, ◌+◌, ◌
 use Rattle.base.specs.Words.{count}
 use Rattle.base.specs.Masks.{has_bit, mask_of}
 use Rattle.image.specs.Limits.{max_programs}
-use Rattle.image.specs.Image.{rule_byte}
+use Rattle.image.specs.Image.{count_of, rule_byte}
+use Rattle.slot.specs.declared.Group.TheVariants.{Carried}
+use Rattle.area.specs.Layout.{in_group}
 use Rattle.writer.specs.Joined.{image_of}
 use Rattle.writer.specs.Picked.{picked}
 use Rattle.writer.specs.Writing.{Source}
 use Rattle.carry.specs.declared.Chosen.{Chosen}
+
+-- the carried programs of a batch for T cells, and all of the fresh image's
+pub record Choice (image : List ℕ) (T : ℕ) (a fresh : List ℕ) (c : Chosen) : Type 0 where
+  pub image_is : c.image.now ≡ image
+  pub fresh_is : c.fresh.now ≡ fresh
+  pub n_is : c.n ≡ count_of image
+  pub m_is : c.m ≡ count_of fresh
+  pub mask_is : c.mask ≡ mask_of (in_group Carried T a) c.n
+  pub counted : c.programs ≡ count (has_bit c.mask) c.n + c.m
 
 -- the mask of all the fresh image's programs
 abbrev pub all_fresh : Chosen → ℕ

@@ -3,6 +3,9 @@
 
 ghost use Rattle.std.specs.Prelude.{◌≡◌, ◌≤◌, length};
 ghost use Rattle.text.specs.Writing.{Wrote};
+ghost use Rattle.image.specs.Refusals.{passed};
+ghost use Rattle.image.specs.Image.{refusal_of};
+ghost use Rattle.area.specs.Checks.{Checked};
 ghost use Rattle.carry.specs.Next.{lent_refusal, size_refusal, NextSays};
 
 use image::Refusal;
@@ -18,8 +21,27 @@ pub struct Chosen<'a> {
     pub programs: usize,
 }
 
-impl Chosen<'_> {
-    ghost use Rattle.carry.specs.Sources.{Sources, image_from};
+impl<'a> Chosen<'a> {
+    ghost use Rattle.carry.specs.Sources.{Choice, Sources, image_from};
+
+    // The carried programs and all of the fresh image's, where the checks of all that is lent have been made.
+    fn of(image: &'a [u8], table: &[u32], area: &[u32], fresh: &'a [u8]) -> Chosen<'a>
+        requires { Checked image.now table.now area.now × (refusal_of fresh.now ≡ passed) }
+        ensures { Choice image.now (length table.now) area.now fresh.now result }
+    {
+        let n = image::count(image);
+        let m = image::count(fresh);
+        let mask = area::members(area, table.len(), n, slot::Group::Carried);
+        let programs = masks::count(mask, n) + m;
+        Chosen {
+            image,
+            n,
+            mask,
+            fresh,
+            m,
+            programs,
+        }
+    }
 
     // The next image's length, for check 10.
     #[tactic(auto, using(crate::proofs::Sources::from_length))]
@@ -92,18 +114,7 @@ pub fn next_image(
     ensures { NextSays image.now table.now guards.now area.now fresh.now out.old result out.new }
 {
     lent_refusal(image, table, guards, area, fresh)?;
-    let n = image::count(image);
-    let m = image::count(fresh);
-    let mask = area::members(area, table.len(), n, slot::Group::Carried);
-    let programs = masks::count(mask, n) + m;
-    let chosen = Chosen {
-        image,
-        n,
-        mask,
-        fresh,
-        m,
-        programs,
-    };
+    let chosen = Chosen::of(image, table, area, fresh);
     chosen.size_refusal(out)?;
     Ok(chosen.write(out))
 }
