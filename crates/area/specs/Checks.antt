@@ -1,12 +1,12 @@
 -- Document 01, "What each refusal says": checks 5, 6, 7 and 9, where document 02's 14 comes in, and the checks that every call on an area begins with.
 -- Assumes nothing.
-use Rattle.std.specs.Prelude.{ℕ, ◌+◌, ◌≤◌, ◌<◌, ◌≡◌, Bool, true, ◌&&◌, List, length, get_or, eqb, ltb, leb}
+use Rattle.std.specs.Prelude.{ℕ, ◌+◌, ◌≤◌, ◌<◌, ◌≡◌, Bool, true, ◌&&◌, List, length, get_or, eqb, ltb, leb, Result}
 use Rattle.base.specs.Words.{every}
 use Rattle.image.specs.Limits.{max_programs, min_cells, max_cells}
-use Rattle.image.specs.declared.Refusal.{Refusal}
-use Rattle.image.specs.Refusals as refusal
-use Rattle.image.specs.Refusals.{check, after}
-use Rattle.image.specs.Image.{count_of, refusal_of}
+use Rattle.image.specs.declared.refusals.Refusal.{Refusal}
+use Rattle.image.specs.declared.refusals.Refusal.TheVariants as refusal
+use Rattle.image.specs.Refusals.{passed, check, after}
+use Rattle.image.specs.Image.{count_of, refusal_of, image_checks}
 use Rattle.guard.specs.Guards.{guard_words, pairs_for}
 use Rattle.slot.specs.declared.ListKind.{ListKind}
 use Rattle.slot.specs.declared.ListKind.TheVariants.{Reads, Stores}
@@ -61,30 +61,30 @@ all_ended = states_from first_end
 -- ---- which checks go first; wherever a comment of the house says "checks 1 to 7", or more, 14 is among them, in its place
 
 -- 5; 14, "after 5" (document 02, ask 5); and 6, for n programs
-unfoldable pub room_refusal : ℕ → (t g a : List ℕ) → Refusal
+unfoldable pub room_refusal : ℕ → (t g a : List ℕ) → Result (Unit {0}) Refusal
 room_refusal n t g a =
-    check (table_good t) refusal.table_size
-    (check (pairs_for (length t) g) refusal.guards
-    (check (size_is (length t) n a) refusal.area_size
-    refusal.none))
+    check (table_good t) refusal.TableSize
+    (check (pairs_for (length t) g) refusal.Guards
+    (check (size_is (length t) n a) refusal.AreaSize
+    passed))
 
 -- 1 to 5, 14, 6, as opening makes them
-unfoldable pub open_refusal : (image t g a : List ℕ) → Refusal
-open_refusal image t g a = after (refusal_of image) (room_refusal (count_of image) t g a)
+unfoldable pub open_refusal : (image t g a : List ℕ) → Result (Unit {0}) Refusal
+open_refusal image t g a = after (image_checks image) (room_refusal (count_of image) t g a)
 
 -- and 7, as every other call that is lent image, table, guards and area does
-unfoldable pub call_refusal : (image t g a : List ℕ) → Refusal
-call_refusal image t g a = after (open_refusal image t g a) (check (words_good (length t) (count_of image) a) refusal.area refusal.none)
+unfoldable pub call_refusal : (image t g a : List ℕ) → Result (Unit {0}) Refusal
+call_refusal image t g a = after (open_refusal image t g a) (check (words_good (length t) (count_of image) a) refusal.Area passed)
 
 -- and 9, "Order, next image: some state 0 or 1"
-unfoldable pub ended_refusal : (image t g a : List ℕ) → Refusal
-ended_refusal image t g a = after (call_refusal image t g a) (check (all_ended (length t) (count_of image) a) refusal.state refusal.none)
+unfoldable pub ended_refusal : (image t g a : List ℕ) → Result (Unit {0}) Refusal
+ended_refusal image t g a = after (call_refusal image t g a) (check (all_ended (length t) (count_of image) a) refusal.State passed)
 
 -- ---- what the checks have shown
 
 -- 1 to 7, of image, table and area: the `requires` of every inner function, which a whole batch has to check once
 pub record Checked (image t a : List ℕ) : Type 0 where
-  pub accepted : (refusal_of image).number ≡ 0
+  pub accepted : refusal_of image ≡ passed
   pub programs : count_of image ≤ max_programs
   pub cells_some : 0 < length t
   pub cells_few : length t ≤ max_cells

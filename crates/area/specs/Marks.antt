@@ -1,5 +1,5 @@
 -- Document 01, "The work area" and "The steps": what a mark says, how a program reserves, and its WAW, RAW and WAR by the marks. Assumes nothing.
-use Rattle.std.specs.Prelude.{ℕ, ◌+◌, ◌-◌, Bool, false, cond, ◌&&◌, ◌||◌, List, [], ◌∷◌, get_or, set, eqb, ltb, leb}
+use Rattle.std.specs.Prelude.{ℕ, ◌+◌, ◌-◌, Bool, false, cond, ◌&&◌, ◌||◌, List, [], ◌∷◌, get_or, set, eqb, ltb, leb, Option, Some, None}
 use Rattle.base.specs.Words.{least, has, words}
 use Rattle.slot.specs.declared.ListKind.{ListKind}
 use Rattle.slot.specs.declared.ListKind.TheVariants.{Reads, Stores}
@@ -69,6 +69,10 @@ lower_cell at k a found cell = cond (ltb cell found && earlier (get_or a (at + c
 -- of program k's list of a kind by the marks of a kind
 unfoldable pub lowest : ListKind → MarkKind → ℕ → ℕ → List ℕ → ℕ
 lowest l m T k a = lowest_of T (marks_at m T) (list_of l T k a) k a
+
+-- that cell, where there is one: a number below T
+abbrev pub below : (T cell : ℕ) → Option ℕ
+below T cell = cond (ltb cell T) (Some cell) None
 
 -- ---- stores
 

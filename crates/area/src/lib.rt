@@ -7,15 +7,26 @@ ghost use Rattle.base.specs.Masks.{mask_of};
 ghost use Rattle.image.specs.Limits.{max_programs};
 ghost use Rattle.image.specs.Image.{refusal_of};
 ghost use Rattle.area.specs.Layout.{area_words, marks_at, slot_start, span_of, list_of, state_of, detail_of, in_group, with_state};
-ghost use Rattle.area.specs.Marks.{lower, reserve, earlier, named, lower_cell, lowest_of, lowest, stored_by, committed_table};
+ghost use Rattle.area.specs.Marks.{lower, reserve, earlier, named, lower_cell, lowest_of, lowest, below, stored_by, committed_table};
 ghost use Rattle.area.specs.Checks.{table_good, all_below, list_good, slot_good, slots_good, words_good, states_from};
 ghost use Rattle.area.specs.Checks.{room_refusal, open_refusal, call_refusal, ended_refusal, Measured, HasSlot, Slotted, Names, Searched, Storing};
+
+use image::{ImageRefusal, Refusal};
 
 // The kinds of marks: who stores a cell, and who reads it.
 #[derive(Clone, Copy)]
 pub enum MarkKind {
     Write,
     Read,
+}
+
+// What is lent to read of a batch: its image, its table with the guards, and its area.
+#[derive(Clone, Copy)]
+pub struct Batch<'a> {
+    pub image: &'a [u8],
+    pub table: &'a [u32],
+    pub guards: &'a [u32],
+    pub area: &'a [u32],
 }
 
 // Where the marks of a kind begin.
@@ -157,20 +168,21 @@ fn store_all(table: &mut [u32], area: &[u32], cells: usize, values: usize, count
     }
 }
 
-// The lowest cell of the program's list of a kind whose mark of a kind names an earlier program; `cells` where there is none.
+// The lowest cell of the program's list of a kind whose mark of a kind names an earlier program, where there is one.
 pub fn lowest(
     area: &[u32],
     cells: usize,
     number: usize,
     list: slot::ListKind,
     marks: MarkKind,
-) -> usize
+) -> Option<usize>
     requires { Slotted cells number area.now }
-    ensures { result ≡ lowest list marks cells number area.now }
+    ensures { result ≡ below cells (lowest list marks cells number area.now) }
 {
     let s = span_of(area, cells, number, list);
     let start = marks_start(marks, cells);
-    lowest_of(area, cells, start, s.at, s.count, number)
+    let found = lowest_of(area, cells, start, s.at, s.count, number);
+    if found < cells { Some(found) } else { None }
 }
 
 // The program reserves the cells of its list of a kind in the marks of a kind.
@@ -324,70 +336,67 @@ fn words_good(area: &[u32], cells: usize, n: usize) -> bool
 }
 
 // Checks 5, 14 and 6, for n programs.
-fn room_refusal(n: usize, table: &[u32], guards: &[u32], area: &[u32]) -> image::Refusal
+fn room_refusal(n: usize, table: &[u32], guards: &[u32], area: &[u32]) -> Result<(), Refusal>
     requires { n ≤ max_programs }
     ensures { result ≡ room_refusal n table.now guards.now area.now }
 {
     if !table_good(table) {
-        return image::Refusal::TABLE_SIZE;
+        return Err(Refusal::TableSize);
     }
     if !guard::pairs_for(table.len(), guards) {
-        return image::Refusal::GUARDS;
+        return Err(Refusal::Guards);
     }
     if area.len() != slot_start(table.len(), n) {
-        return image::Refusal::AREA_SIZE;
+        return Err(Refusal::AreaSize);
     }
-    image::Refusal::NONE
+    Ok(())
 }
 
 // Checks 1 to 5, 14, 6. The caller makes 1 to 4 first and hands over what they said, so that their stack does not come on top of this one's.
 pub fn open_refusal(
-    refused: image::Refusal,
+    checked: Result<(), ImageRefusal>,
     image: &[u8],
     table: &[u32],
     guards: &[u32],
     area: &[u32],
-) -> image::Refusal
-    requires { refused ≡ refusal_of image.now }
+) -> Result<(), Refusal>
+    requires { checked ≡ refusal_of image.now }
     ensures { result ≡ open_refusal image.now table.now guards.now area.now }
 {
-    if refused.number != 0 {
-        return refused;
-    }
+    checked?;
     room_refusal(image::count(image), table, guards, area)
 }
 
 // Checks 1 to 5, 14, 6, 7, after the same four.
 pub fn call_refusal(
-    refused: image::Refusal,
+    checked: Result<(), ImageRefusal>,
     image: &[u8],
     table: &[u32],
     guards: &[u32],
     area: &[u32],
-) -> image::Refusal
-    requires { refused ≡ refusal_of image.now }
+) -> Result<(), Refusal>
+    requires { checked ≡ refusal_of image.now }
     ensures { result ≡ call_refusal image.now table.now guards.now area.now }
 {
-    let opening = open_refusal(refused, image, table, guards, area);
-    if opening.number != 0 {
-        return opening;
-    }
+    open_refusal(checked, image, table, guards, area)?;
     if !words_good(area, table.len(), image::count(image)) {
-        return image::Refusal::AREA;
+        return Err(Refusal::Area);
     }
-    image::Refusal::NONE
+    Ok(())
 }
 
 // The same, and 9 as the listed order and the next image make it.
-pub fn ended_refusal(image: &[u8], table: &[u32], guards: &[u32], area: &[u32]) -> image::Refusal
+pub fn ended_refusal(
+    image: &[u8],
+    table: &[u32],
+    guards: &[u32],
+    area: &[u32],
+) -> Result<(), Refusal>
     ensures { result ≡ ended_refusal image.now table.now guards.now area.now }
 {
-    let refused = call_refusal(image::image_refusal(image), image, table, guards, area);
-    if refused.number != 0 {
-        return refused;
-    }
+    call_refusal(image::image_refusal(image), image, table, guards, area)?;
     if !states_from(area, table.len(), image::count(image), slot::FIRST_END) {
-        return image::Refusal::STATE;
+        return Err(Refusal::State);
     }
-    image::Refusal::NONE
+    Ok(())
 }

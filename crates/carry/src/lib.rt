@@ -6,12 +6,7 @@ ghost use Rattle.text.specs.Writing.{Wrote};
 ghost use Rattle.carry.specs.Next.{lent_refusal, size_refusal, NextSays};
 ghost use Rattle.carry.specs.Sources.{Sources, image_from};
 
-// What the next image answers.
-#[derive(Clone, Copy)]
-pub enum Next {
-    Refused(image::Refusal),
-    Length(usize),
-}
+use image::Refusal;
 
 // The next image's length, for check 10.
 fn next_length(image: &[u8], n: usize, mask: u64, fresh: &[u8], m: usize, programs: usize) -> usize
@@ -55,13 +50,10 @@ fn lent_refusal(
     guards: &[u32],
     area: &[u32],
     fresh: &[u8],
-) -> image::Refusal
+) -> Result<(), Refusal>
     ensures { result ≡ lent_refusal image.now table.now guards.now area.now fresh.now }
 {
-    let refused = area::ended_refusal(image, table, guards, area);
-    if refused.number != 0 {
-        return refused;
-    }
+    area::ended_refusal(image, table, guards, area)?;
     image::fresh_refusal(fresh)
 }
 
@@ -74,17 +66,17 @@ fn size_refusal(
     m: usize,
     programs: usize,
     out: &[u8],
-) -> image::Refusal
+) -> Result<(), Refusal>
     requires { Sources image.now n mask fresh.now m programs }
     ensures { result ≡ size_refusal programs (image_from image.now n mask fresh.now m) out.now }
 {
     if image::Image::PROGRAMS < programs {
-        return image::Refusal::TOO_MANY;
+        return Err(Refusal::TooMany);
     }
     if out.len() < next_length(image, n, mask, fresh, m, programs) {
-        return image::Refusal::TOO_SHORT;
+        return Err(Refusal::TooShort);
     }
-    image::Refusal::NONE
+    Ok(())
 }
 
 // The next image: its length, and its bytes at the front of the output.
@@ -95,20 +87,14 @@ pub fn next_image(
     area: &[u32],
     fresh: &[u8],
     out: &mut [u8],
-) -> Next
+) -> Result<usize, Refusal>
     ensures { NextSays image.now table.now guards.now area.now fresh.now out.old result out.new }
 {
-    let refused = lent_refusal(image, table, guards, area, fresh);
-    if refused.number != 0 {
-        return Next::Refused(refused);
-    }
+    lent_refusal(image, table, guards, area, fresh)?;
     let n = image::count(image);
     let m = image::count(fresh);
     let mask = area::members(area, table.len(), n, slot::Group::Carried);
     let programs = masks::count(mask, n) + m;
-    let large = size_refusal(image, n, mask, fresh, m, programs, out);
-    if large.number != 0 {
-        return Next::Refused(large);
-    }
-    Next::Length(write_next(image, n, mask, fresh, m, programs, out))
+    size_refusal(image, n, mask, fresh, m, programs, out)?;
+    Ok(write_next(image, n, mask, fresh, m, programs, out))
 }

@@ -9,7 +9,9 @@ ghost use Rattle.causes.specs.Why.{told_by, NamesAll, ask_refusal, carried_refus
 
 mod answers;
 
-pub use answers::{Before, Cause, Why};
+pub use answers::{Cause, Why};
+
+use image::Refusal;
 
 // The cause that a cell shows: with it, the program that its mark of a kind names.
 fn cause_at(area: &[u32], cells: usize, cell: usize, marks: area::MarkKind) -> Cause
@@ -23,25 +25,30 @@ fn cause_at(area: &[u32], cells: usize, cell: usize, marks: area::MarkKind) -> C
 }
 
 // The reason of a decision with its cause; a decision to commit has none.
-fn with_cause(verdict: steps::Verdict, area: &[u32], cells: usize) -> Why
+fn with_cause(verdict: steps::Verdict, area: &[u32], cells: usize) -> Result<Why, Refusal>
     requires { NamesAll verdict cells area.now }
     ensures { result ≡ told_by verdict cells area.now }
 {
     let write = area::MarkKind::Write;
     match verdict {
-        steps::Verdict::Commit => Why::Refused(image::Refusal::REASON),
-        steps::Verdict::Waw(cell) => Why::Waw(cause_at(area, cells, cell, write)),
-        steps::Verdict::Raw(cell) => Why::Raw(cause_at(area, cells, cell, write)),
+        steps::Verdict::Commit => Err(Refusal::Reason),
+        steps::Verdict::Waw(cell) => Ok(Why::Waw(cause_at(area, cells, cell, write))),
+        steps::Verdict::Raw(cell) => Ok(Why::Raw(cause_at(area, cells, cell, write))),
         steps::Verdict::RawWithWar(cell, other) => {
             let raw = cause_at(area, cells, cell, write);
             let war = cause_at(area, cells, other, area::MarkKind::Read);
-            Why::RawWithWar(raw, war)
+            Ok(Why::RawWithWar(raw, war))
         }
     }
 }
 
 // Why a program was carried, where the checks up to 13 have been made: the decision is settling's, and its reason has to be the detail.
-pub fn why_checked(image: &[u8], table: &[u32], area: &[u32], number: usize) -> Why
+pub fn why_checked(
+    image: &[u8],
+    table: &[u32],
+    area: &[u32],
+    number: usize,
+) -> Result<Why, Refusal>
     requires { Checked image.now table.now area.now × (number < count_of image.now) }
     ensures { Explains image.now table.now area.now number result }
 {
@@ -49,7 +56,7 @@ pub fn why_checked(image: &[u8], table: &[u32], area: &[u32], number: usize) -> 
     let verdict = steps::judge(image, area, cells, number);
     let reason = steps::detail_of(steps::settled_by(verdict));
     if area::detail(area, cells, number) != reason {
-        return Why::Refused(image::Refusal::REASON);
+        return Err(Refusal::Reason);
     }
     with_cause(verdict, area, cells)
 }
@@ -61,17 +68,14 @@ fn ask_refusal(
     guards: &[u32],
     area: &[u32],
     number: usize,
-) -> image::Refusal
+) -> Result<(), Refusal>
     ensures { result ≡ ask_refusal image.now table.now guards.now area.now number }
 {
-    let refused = steps::step_refusal(image, table, guards, area, number);
-    if refused.number != 0 {
-        return refused;
-    }
+    steps::step_refusal(image, table, guards, area, number)?;
     if !area::states_from(area, table.len(), image::count(image), slot::FIRST_END) {
-        return image::Refusal::STATE;
+        return Err(Refusal::State);
     }
-    image::Refusal::NONE
+    Ok(())
 }
 
 // And 13.
@@ -81,58 +85,52 @@ fn carried_refusal(
     guards: &[u32],
     area: &[u32],
     number: usize,
-) -> image::Refusal
+) -> Result<(), Refusal>
     ensures { result ≡ carried_refusal image.now table.now guards.now area.now number }
 {
-    let refused = ask_refusal(image, table, guards, area, number);
-    if refused.number != 0 {
-        return refused;
-    }
+    ask_refusal(image, table, guards, area, number)?;
     let state = area::state(area, table.len(), number);
     if !slot::is_in(slot::Group::Carried, state) {
-        return image::Refusal::NOT_CARRIED;
+        return Err(Refusal::NotCarried);
     }
-    image::Refusal::NONE
+    Ok(())
 }
 
 // Why a program of a settled batch was carried: the reason with its cause.
-pub fn why(image: &[u8], table: &[u32], guards: &[u32], area: &[u32], number: usize) -> Why
+pub fn why(
+    image: &[u8],
+    table: &[u32],
+    guards: &[u32],
+    area: &[u32],
+    number: usize,
+) -> Result<Why, Refusal>
     ensures { WhySays image.now table.now guards.now area.now number result }
 {
-    let refused = carried_refusal(image, table, guards, area, number);
-    if refused.number != 0 {
-        return Why::Refused(refused);
-    }
+    carried_refusal(image, table, guards, area, number)?;
     why_checked(image, table, area, number)
 }
 
-// RAW of a program, with its cause.
-fn before_whom(area: &[u32], cells: usize, number: usize) -> Before
+// RAW of a program, with its cause, where it has one.
+fn before_whom(area: &[u32], cells: usize, number: usize) -> Option<Cause>
     requires { Slotted cells number area.now }
     ensures { result ≡ before_of cells number area.now }
 {
     let reads = slot::ListKind::Reads;
     let write = area::MarkKind::Write;
-    let cell = area::lowest(area, cells, number, reads, write);
-    if cells <= cell {
-        return Before::Nobody;
-    }
-    Before::Program(cause_at(area, cells, cell, write))
+    let cell = area::lowest(area, cells, number, reads, write)?;
+    Some(cause_at(area, cells, cell, write))
 }
 
-// Before whom a program of a settled batch comes: it read a cell as it was, which an earlier program stores.
+// Before whom a program of a settled batch comes, if it comes before one: it read a cell as it was, which an earlier program stores.
 pub fn comes_before(
     image: &[u8],
     table: &[u32],
     guards: &[u32],
     area: &[u32],
     number: usize,
-) -> Before
+) -> Result<Option<Cause>, Refusal>
     ensures { BeforeSays image.now table.now guards.now area.now number result }
 {
-    let refused = ask_refusal(image, table, guards, area, number);
-    if refused.number != 0 {
-        return Before::Refused(refused);
-    }
-    before_whom(area, table.len(), number)
+    ask_refusal(image, table, guards, area, number)?;
+    Ok(before_whom(area, table.len(), number))
 }

@@ -2,8 +2,8 @@
 use Rattle.refused.specs.Opened as refused
 use Rattle.from_sheet.specs.Opened as from_sheet
 use Rattle.from_image.specs.Opened as from_image
-use Rattle.converted.specs.Converted.{sheet_refused, image_page, sheet_said, sheet_page}
+use Rattle.converted.specs.Converted.{unwritten_line, image_page, said_of, sheet_said, sheet_page}
 
 unfoldable pub opened : Unit {0}
-unfolding refused.opened from_sheet.opened from_image.opened sheet_refused image_page sheet_said sheet_page
+unfolding refused.opened from_sheet.opened from_image.opened unwritten_line image_page said_of sheet_said sheet_page
 opened = tt

@@ -5,34 +5,17 @@
 ghost use Rattle.std.specs.Prelude.{◌≡◌, ◌+◌, ◌≤◌, length, replicate};
 ghost use Rattle.image.specs.Limits.{max_bytes};
 ghost use Rattle.from_image.specs.Longest.{longest_sheet};
+ghost use Rattle.refused.specs.Refused.{most_refused};
 ghost use Rattle.refused.specs.Where.{most_where_at_line};
-ghost use Rattle.converted.specs.Converted.{longest_input, image_page, sheet_said, sheet_page};
+ghost use Rattle.converted.specs.Converted.{longest_input, unwritten_line, image_page, sheet_said, sheet_page};
 ghost use Rattle.text.specs.Writing.{PageSays};
 
-// The longest input that the two programs take, and what they say of a longer one.
+use image::{ImageRefusal, Refusal, RefusalNumbers};
+use sheet::Unwritten;
+use text::Page;
+
+// The longest input that the two programs take.
 pub const LONGEST_INPUT: usize = 1048576;
-
-pub const TOO_LONG: [u8; 38] = *b"the input is longer than 1048576 bytes";
-
-// Room for the longest input and a byte more, by which a longer one is told.
-pub fn input_room() -> [u8; LONGEST_INPUT + 1]
-    ensures { (longest_input + 1 ≡ length result) × (result ≡ replicate (longest_input + 1) 0) }
-{
-    [0; LONGEST_INPUT + 1]
-}
-
-// Room for every image, and for every sheet of one.
-pub fn image_room() -> [u8; image::Image::BYTES]
-    ensures { (max_bytes ≡ length result) × (result ≡ replicate max_bytes 0) }
-{
-    [0; image::Image::BYTES]
-}
-
-pub fn sheet_room() -> [u8; from_image::LONGEST_SHEET]
-    ensures { (longest_sheet ≡ length result) × (result ≡ replicate longest_sheet 0) }
-{
-    [0; from_image::LONGEST_SHEET]
-}
 
 // What `to_image` prints of a sheet.
 pub fn image_page(sheet: &[u8], out: &mut [u8]) -> usize
@@ -40,12 +23,24 @@ pub fn image_page(sheet: &[u8], out: &mut [u8]) -> usize
     ensures { PageSays (image_page sheet.now) out.old result out.new }
 {
     match from_sheet::image_of(sheet, out) {
-        sheet::Written::Refused(refusal) => refused::put_refused(out, 0, refusal),
-        sheet::Written::BadLine(line) => {
-            refused::put_refused_at(out, 0, image::Refusal::LINE, line)
-        }
-        sheet::Written::Length(length) => length,
+        Ok(length) => length,
+        Err(unwritten) => unwritten_page(unwritten, out),
     }
+}
+
+// The line of a sheet that has no image.
+fn unwritten_page(unwritten: Unwritten, out: &mut [u8]) -> usize
+    requires { most_refused ≤ length out.old }
+    ensures { PageSays (unwritten_line unwritten) out.old result out.new }
+{
+    let mut page = Page::new(out);
+    match unwritten {
+        Unwritten::Refused(refusal) => refused::put_refused(&mut page, refusal),
+        Unwritten::BadLine(line) => {
+            refused::put_refused_at(&mut page, RefusalNumbers::LINE, line)
+        }
+    }
+    page.end()
 }
 
 // What it says of a sheet on standard error: the line and the place of its bad instruction, or nothing.
@@ -53,16 +48,15 @@ pub fn sheet_said(sheet: &[u8], out: &mut [u8]) -> usize
     requires { most_where_at_line ≤ length out.old }
     ensures { PageSays (sheet_said sheet.now) out.old result out.new }
 {
-    let refusal = from_sheet::sheet_refusal(sheet);
-    if !refused::says_where(refusal.number) {
+    let Err(Unwritten::Refused(Refusal::Image(ImageRefusal::Instruction(bad)))) =
+        from_sheet::sheet_refusal(sheet)
+    else {
         return 0;
-    }
-    let wrong = from_sheet::wrong_line(
-        sheet,
-        refusal.program as usize,
-        refusal.instruction as usize,
-    );
-    refused::put_where_at(out, 0, refusal, wrong.line, wrong.byte)
+    };
+    let wrong = from_sheet::wrong_line(sheet, bad.program as usize, bad.instruction as usize);
+    let mut page = Page::new(out);
+    refused::put_where_at(&mut page, bad, wrong.line, wrong.byte);
+    page.end()
 }
 
 // What `to_sheet` prints of an image.
@@ -70,9 +64,8 @@ pub fn sheet_page(image: &[u8], out: &mut [u8]) -> usize
     requires { longest_sheet ≤ length out.old }
     ensures { PageSays (sheet_page image.now) out.old result out.new }
 {
-    let refusal = image::image_refusal(image);
-    if refusal.number != 0 {
-        return refused::put_refused(out, 0, refusal);
+    match image::image_refusal(image) {
+        Ok(()) => from_image::write_sheet(image, out),
+        Err(refusal) => unwritten_page(Unwritten::from(refusal), out),
     }
-    from_image::write_sheet(image, out)
 }

@@ -1,16 +1,14 @@
 -- Document 02, ask 1: the sheet of an image, and what the call answers and leaves. "From an image: 1 to 4, then 10." Assumes nothing.
-use Rattle.std.specs.Prelude.{ℕ, zero, suc, ◌≡◌, List, [], ◌∷◌, ◌++◌, leb, length, drop}
-use Rattle.image.specs.declared.Refusal.{Refusal}
-use Rattle.image.specs.Refusals as refusal
-use Rattle.image.specs.Refusals.{check, after, unless}
+use Rattle.std.specs.Prelude.{ℕ, zero, suc, ◌≡◌, List, [], ◌∷◌, ◌++◌, leb, length, drop, Result, Ok, Err}
+use Rattle.image.specs.declared.refusals.Refusal.{Refusal}
+use Rattle.image.specs.declared.refusals.Refusal.TheVariants.{TooShort}
+use Rattle.image.specs.Refusals.{passed, check, after, unless}
 use Rattle.image.specs.Instruction.{byte_of, instructions_of}
-use Rattle.image.specs.Image.{rule_byte, refusal_of}
+use Rattle.image.specs.Image.{rule_byte, image_checks}
 use Rattle.writer.specs.Picked.{all_of}
 use Rattle.sheet.specs.declared.Instruction.{Instruction}
 use Rattle.sheet.specs.declared.Line.{Line}
 use Rattle.sheet.specs.declared.Line.TheVariants as line
-use Rattle.sheet.specs.declared.Written.{Written}
-use Rattle.sheet.specs.declared.Written.TheVariants.{Refused, Length}
 use Rattle.sheet.specs.Sheet.{sheet_text}
 
 -- ""rule R", then for each program a line "program", then a line per instruction": instruction i of a program, the first of them, all of them
@@ -36,17 +34,17 @@ unfoldable pub sheet_of_image : List ℕ → List ℕ
 sheet_of_image image = sheet_text (lines_for (rule_byte image) (all_of image))
 
 -- 1 to 4, then 10
-unfoldable pub sheet_of_refusal : (image out : List ℕ) → Refusal
-sheet_of_refusal image out = after (refusal_of image) (check (leb (length (sheet_of_image image)) (length out)) refusal.too_short refusal.none)
+unfoldable pub sheet_of_refusal : (image out : List ℕ) → Result (Unit {0}) Refusal
+sheet_of_refusal image out = after (image_checks image) (check (leb (length (sheet_of_image image)) (length out)) TooShort passed)
 
 -- what the call answers, and what the output then holds: "beyond the length nothing is touched"
-unfoldable pub sheet_of_answer : (image out : List ℕ) → Written
-sheet_of_answer image out = unless (sheet_of_refusal image out) Refused (Length (length (sheet_of_image image)))
+unfoldable pub sheet_of_answer : (image out : List ℕ) → Result ℕ Refusal
+sheet_of_answer image out = unless (sheet_of_refusal image out) Err (Ok (length (sheet_of_image image)))
 
 unfoldable pub sheet_of_output : (image out : List ℕ) → List ℕ
 sheet_of_output image out = unless (sheet_of_refusal image out) (λ r. out) (sheet_of_image image ++ drop (length (sheet_of_image image)) out)
 
 -- The contract of the call.
-pub record SheetOfSays (image out : List ℕ) (r : Written) (out' : List ℕ) : Type 0 where
+pub record SheetOfSays (image out : List ℕ) (r : Result ℕ Refusal) (out' : List ℕ) : Type 0 where
   pub answer : r ≡ sheet_of_answer image out
   pub output : out' ≡ sheet_of_output image out

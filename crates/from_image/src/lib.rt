@@ -5,6 +5,7 @@ ghost use Rattle.std.specs.Prelude.{◌≡◌, true, [], ◌∷◌, ◌*◌, ◌
 ghost use Rattle.text.specs.Writing.{Wrote, Room};
 ghost use Rattle.image.specs.Limits.{max_instructions};
 ghost use Rattle.image.specs.Instruction.{instructions_of};
+ghost use Rattle.image.specs.Refusals.{passed};
 ghost use Rattle.image.specs.Image.{refusal_of};
 ghost use Rattle.writer.specs.Picked.{picked};
 ghost use Rattle.sheet.specs.declared.Line.TheVariants as line;
@@ -12,6 +13,8 @@ ghost use Rattle.sheet.specs.Sheet.{operations, name_of, sheet_text};
 ghost use Rattle.from_image.specs.FromImage.{instruction_at, first_lines, program_lines, programs_lines, sheet_of_image, sheet_of_refusal, SheetOfSays};
 ghost use Rattle.from_image.specs.Longest.{longest_sheet};
 ghost use Rattle.from_image.specs.Typing.{Good, Programs, most_name, most_line, most_lines};
+
+use image::Refusal;
 
 // ---- writing
 
@@ -168,7 +171,7 @@ fn programs_length(image: &[u8], n: usize) -> usize
 
 // How many bytes the sheet has, for check 10.
 fn sheet_length(image: &[u8]) -> usize
-    requires { (refusal_of image.now).number ≡ 0 }
+    requires { refusal_of image.now ≡ passed }
     ensures { result ≡ length (sheet_of_image image.now) }
 {
     let rule = text::decimal_length(image::rule(image) as u32);
@@ -201,26 +204,20 @@ pub fn longest_sheet() -> usize
 // ---- the call
 
 // Checks 1 to 4, then 10.
-fn sheet_refusal(image: &[u8], out: &[u8]) -> image::Refusal
+fn sheet_refusal(image: &[u8], out: &[u8]) -> Result<(), Refusal>
     ensures { result ≡ sheet_of_refusal image.now out.now }
 {
-    let refused = image::image_refusal(image);
-    if refused.number != 0 {
-        return refused;
-    }
+    image::image_refusal(image)?;
     if out.len() < sheet_length(image) {
-        return image::Refusal::TOO_SHORT;
+        return Err(Refusal::TooShort);
     }
-    image::Refusal::NONE
+    Ok(())
 }
 
 // The sheet of an image: its length, and its bytes at the front of the output.
-pub fn sheet_of(image: &[u8], out: &mut [u8]) -> sheet::Written
+pub fn sheet_of(image: &[u8], out: &mut [u8]) -> Result<usize, Refusal>
     ensures { SheetOfSays image.now out.old result out.new }
 {
-    let refused = sheet_refusal(image, out);
-    if refused.number != 0 {
-        return sheet::Written::Refused(refused);
-    }
-    sheet::Written::Length(write_sheet(image, out))
+    sheet_refusal(image, out)?;
+    Ok(write_sheet(image, out))
 }

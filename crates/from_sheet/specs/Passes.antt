@@ -1,9 +1,9 @@
 -- How a sheet is gone through, line by line: what each pass has still to do. Assumes nothing.
-use Rattle.std.specs.Prelude.{ℕ, ◌+◌, ◌-◌, ◌≤◌, ◌<◌, max, ◌≡◌, Bool, true, cond, ◌&&◌, List, [], ◌∷◌, ◌++◌, map, eqb, leb, length, take, drop}
+use Rattle.std.specs.Prelude.{ℕ, zero, suc, ◌+◌, ◌-◌, ◌≤◌, ◌<◌, max, ◌≡◌, Bool, true, cond, ◌&&◌, List, [], ◌∷◌, ◌++◌, map, eqb, leb, length, take, drop, Result, Ok, Err}
 use Rattle.text.specs.Writing.{Wrote, Room}
 use Rattle.image.specs.Limits.{max_programs, max_program_bytes, max_bytes}
-use Rattle.image.specs.declared.Refusal.{Refusal}
-use Rattle.image.specs.Refusals.{none, after}
+use Rattle.image.specs.declared.refusals.BadInstruction.{BadInstruction}
+use Rattle.image.specs.Refusals.{passed, after}
 use Rattle.image.specs.Instruction.{program_fault}
 use Rattle.writer.specs.declared.Place.{Place}
 use Rattle.writer.specs.Joined.{number}
@@ -13,7 +13,6 @@ use Rattle.sheet.specs.Split.{split}
 use Rattle.sheet.specs.Sheet.{newline, line_of, bad_line, bytes_of, leading, programs}
 use Rattle.from_sheet.specs.declared.counting.Found.{Found}
 use Rattle.from_sheet.specs.declared.counting.Sizes.{Sizes}
-use Rattle.from_sheet.specs.declared.counting.Survey.{Survey}
 use Rattle.from_sheet.specs.declared.checking.Reading.{Reading}
 use Rattle.from_sheet.specs.FromSheet.{image_of_sheet, short_programs}
 
@@ -53,10 +52,15 @@ pub record Small (s : Sizes) (most : ℕ) : Type 0 where
 unfoldable pub last_bad : (place rest : ℕ) → ℕ
 last_bad place rest = cond (eqb place 0) 1 (cond (eqb rest 0) 0 (place + 1))
 
--- what the first pass finds
-pub record Surveys (sheet : List ℕ) (s : Survey) : Type 0 where
-  pub bad_is : s.bad ≡ bad_line sheet
-  pub sizes_are : s.bad ≡ 0 → s.sizes ≡ tally nothing (lines_from 0 sheet)
+-- a line by its number, from 1, that is not allowed; 0 is none
+unfoldable pub checked_line : ℕ → Result (Unit {0}) ℕ
+checked_line zero = passed
+checked_line (suc k) = Err (suc k)
+
+-- what the first pass finds: the sizes, or the first line that is not allowed
+abbrev pub Surveys : List ℕ → Result Sizes ℕ → Type 0
+Surveys sheet (Ok sizes) = (bad_line sheet ≡ 0) × (sizes ≡ tally nothing (lines_from 0 sheet))
+Surveys sheet (Err line) = (line ≡ bad_line sheet) × (0 < line)
 
 -- these are a sheet's, in which every line is allowed: nothing stands before its first program
 pub record Sized (sheet : List ℕ) (s : Sizes) : Type 0 where
@@ -110,11 +114,11 @@ begun_after begun (line.Instruction i) = begun
 begun_after begun line.Other = begun
 
 -- what has been found when this one is looked at too, by its number: before the first "program" there is none, and no byte to look at
-unfoldable pub found_with : (found : Refusal) (begun : ℕ) (bytes : List ℕ) → Refusal
+unfoldable pub found_with : (found : Result (Unit {0}) BadInstruction) (begun : ℕ) (bytes : List ℕ) → Result (Unit {0}) BadInstruction
 found_with found begun bytes = after found (program_fault (begun - 1) bytes)
 
 -- where a new one begins, the one before it is looked at
-unfoldable pub found_after : (found : Refusal) (begun : ℕ) (bytes : List ℕ) → Line → Refusal
+unfoldable pub found_after : (found : Result (Unit {0}) BadInstruction) (begun : ℕ) (bytes : List ℕ) → Line → Result (Unit {0}) BadInstruction
 found_after found begun bytes (line.Rule r) = found
 found_after found begun bytes line.Program = found_with found begun bytes
 found_after found begun bytes (line.Instruction i) = found
@@ -144,11 +148,11 @@ pub record Readable (begun : ℕ) (bytes : List ℕ) (ls : List Line) : Type 0 w
   pub few : begun + length (programs ls) ≤ max_programs
 
 -- the first bad instruction that is still to be found: of this one, and then of programs that are numbered from k on
-unfoldable pub faults_from : (k : ℕ) → List (List ℕ) → Refusal
-faults_from k [] = none
+unfoldable pub faults_from : (k : ℕ) → List (List ℕ) → Result (Unit {0}) BadInstruction
+faults_from k [] = passed
 faults_from k (p ∷ ps) = after (program_fault k p) (faults_from (k + 1) ps)
 
-unfoldable pub still_fault : (begun : ℕ) (bytes : List ℕ) → List Line → Refusal
+unfoldable pub still_fault : (begun : ℕ) (bytes : List ℕ) → List Line → Result (Unit {0}) BadInstruction
 still_fault begun bytes ls = after (program_fault (begun - 1) (bytes ++ leading ls)) (faults_from begun (programs ls))
 
 -- ---- what the checks have shown of a sheet: it has so many programs, nothing stands before the first, and its image is not too long and has room

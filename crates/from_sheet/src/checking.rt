@@ -3,6 +3,8 @@ ghost use Rattle.std.specs.Prelude.{◌≡◌, ◌+◌, ◌-◌, ◌≤◌, leng
 ghost use Rattle.image.specs.Limits.{max_program_bytes};
 ghost use Rattle.from_sheet.specs.Passes.{lines_from, body_of, found_with, InRoom, Reads, Readable, still_fault};
 
+use image::BadInstruction;
+
 use crate::counting::next_line;
 use crate::writing::put_instruction;
 
@@ -11,27 +13,17 @@ use crate::writing::put_instruction;
 pub struct Reading {
     pub used: usize,
     pub begun: usize,
-    pub found: image::Refusal,
-}
-
-// The number of the last program that has begun.
-fn last_number(begun: usize) -> usize
-    ensures { result ≡ begun - 1 }
-{
-    if begun == 0 { 0 } else { begun - 1 }
+    pub found: Result<(), BadInstruction>,
 }
 
 // What is found when the program that has been read is looked at too: the first stands.
-fn found_with(room: &[u8], reading: Reading) -> image::Refusal
+fn found_with(room: &[u8], reading: Reading) -> Result<(), BadInstruction>
     requires { InRoom room.now reading }
     ensures { result ≡ found_with reading.found reading.begun (take reading.used room.now) }
 {
-    let found = reading.found;
-    if found.number != 0 {
-        return found;
-    }
+    reading.found?;
     let used = reading.used;
-    image::program_fault(&room[0..used], last_number(reading.begun))
+    image::program_fault(&room[0..used], reading.begun.saturating_sub(1))
 }
 
 // A line more.
@@ -57,14 +49,14 @@ fn read_line(room: &mut [u8], reading: Reading, line: sheet::Line) -> Reading
 }
 
 // The first bad instruction of a sheet, which has not too many programs, and none that is too long.
-fn first_fault(sheet: &[u8], room: &mut [u8]) -> image::Refusal
+fn first_fault(sheet: &[u8], room: &mut [u8]) -> Result<(), BadInstruction>
     requires { Readable 0 [] (lines_from 0 sheet.now) × (length room.old ≡ max_program_bytes) }
     ensures { result ≡ still_fault 0 [] (lines_from 0 sheet.now) }
 {
     let mut reading = Reading {
         used: 0,
         begun: 0,
-        found: image::Refusal::NONE,
+        found: Ok(()),
     };
     let mut at = 0;
     while at <= sheet.len() {
@@ -77,7 +69,7 @@ fn first_fault(sheet: &[u8], room: &mut [u8]) -> image::Refusal
 }
 
 // The same, in a room of its own.
-pub fn code_fault(sheet: &[u8]) -> image::Refusal
+pub fn code_fault(sheet: &[u8]) -> Result<(), BadInstruction>
     requires { Readable 0 [] (lines_from 0 sheet.now) }
     ensures { result ≡ still_fault 0 [] (lines_from 0 sheet.now) }
 {

@@ -1,7 +1,7 @@
 // The first pass over a sheet: its first bad line, and its sizes.
-ghost use Rattle.std.specs.Prelude.{◌≡◌, ◌≤◌, ◌<◌, ◌^◌, max, length};
+ghost use Rattle.std.specs.Prelude.{◌≡◌, ◌≤◌, ◌<◌, ◌^◌, length};
 ghost use Rattle.sheet.specs.Sheet.{allowed};
-ghost use Rattle.from_sheet.specs.Passes.{counted, last_bad, Finds, Small, Surveys};
+ghost use Rattle.from_sheet.specs.Passes.{counted, last_bad, checked_line, Finds, Small, Surveys};
 
 use crate::NEWLINE;
 
@@ -26,15 +26,15 @@ fn allowed(place: usize, line: sheet::Line) -> bool
     }
 }
 
-// The number of the last line, where something stands behind the last newline, and of a first line that is missing; otherwise 0.
-fn last_bad(place: usize, rest: usize) -> usize
+// The last line, where something stands behind the last newline, and a first line that is missing, are not allowed: their number.
+fn last_checked(place: usize, rest: usize) -> Result<(), usize>
     requires { place < 2 ^ 63 }
-    ensures { result ≡ last_bad place rest }
+    ensures { result ≡ checked_line (last_bad place rest) }
 {
     if place == 0 {
-        return 1;
+        return Err(1);
     }
-    if rest == 0 { 0 } else { place + 1 }
+    if rest == 0 { Ok(()) } else { Err(place + 1) }
 }
 
 // A line, and where the next one begins.
@@ -73,27 +73,14 @@ fn counted(sizes: Sizes, line: sheet::Line) -> Sizes
             programs: sizes.programs,
             instructions: sizes.instructions + 1,
             current: sizes.current + 1,
-            longest: larger(sizes.longest, sizes.current + 1),
+            longest: sizes.longest.max(sizes.current + 1),
         },
         sheet::Line::Other => sizes,
     }
 }
 
-fn larger(a: usize, b: usize) -> usize
-    ensures { result ≡ max a b }
-{
-    if a < b { b } else { a }
-}
-
-// What the first pass finds: the number of the first line that its place does not allow, from 1, or 0; and where that is 0, the sizes.
-#[derive(Clone, Copy)]
-pub struct Survey {
-    pub bad: usize,
-    pub sizes: Sizes,
-}
-
-// Goes through a sheet until a line is not allowed.
-pub fn survey_of(sheet: &[u8]) -> Survey
+// Goes through a sheet until a line is not allowed, and answers with its number, from 1, or with the sizes.
+pub fn survey_of(sheet: &[u8]) -> Result<Sizes, usize>
     ensures { Surveys sheet.now result }
 {
     let mut sizes = Sizes {
@@ -108,18 +95,13 @@ pub fn survey_of(sheet: &[u8]) -> Survey
     while end < sheet.len() {
         let line = sheet::line_of(&sheet[at..end]);
         if !allowed(place, line) {
-            return Survey {
-                bad: place + 1,
-                sizes,
-            };
+            return Err(place + 1);
         }
         sizes = counted(sizes, line);
         at = end + 1;
         place += 1;
         end = sheet::part_end(sheet, at, NEWLINE);
     }
-    Survey {
-        bad: last_bad(place, end - at),
-        sizes,
-    }
+    last_checked(place, end - at)?;
+    Ok(sizes)
 }

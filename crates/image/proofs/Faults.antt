@@ -1,40 +1,24 @@
 -- Laws of the first bad instruction: a program is good where none is found, and one that is found is the first. Assumes nothing.
-use mathlib.Core.Path.{◌≡◌, refl, sym}
-use mathlib.Core.Bool.{Bool, true, false}
+use mathlib.Core.Path.{◌≡◌}
+use mathlib.Core.Bool.{true, false}
 use mathlib.Core.List.{List}
 use Prim.Native.Nat.{ℕ, ◌<◌}
-use native.Mathlib.Omega.{arith}
-use borrow.Author.Tests.{eqb-true}
-use lib.Dec.{eqb}
 use Rattle.base.specs.Words.{every}
-use Rattle.base.proofs.Numbers.{every_at}
-use Rattle.image.specs.declared.Refusal.{Refusal}
-use Rattle.image.specs.Refusals as refusal
-use Rattle.image.specs.Refusals.{refusing_at, none, check, passes, says_where, WellPlaced, placed}
+use Rattle.base.proofs.Numbers.{every_at, every_none, every_more}
+use Rattle.image.specs.declared.refusals.Fault.{Fault}
+use Rattle.image.specs.declared.refusals.Fault.TheVariants as fault
+use Rattle.image.specs.declared.refusals.BadInstruction.{BadInstruction}
+use Rattle.image.specs.declared.refusals.ImageRefusal.TheVariants as image
+use Rattle.image.specs.Refusals.{passed, passes, told_of_image, given_as, WellPlaced, placed}
 use Rattle.image.specs.Instruction.{known, kinds_of, register_good, unused_good, skip_good, each, fault_of, byte_of, instructions_of, fault_at, program_fault, code_fault, place_good, program_good}
-use Rattle.image.proofs.Refusing.{none_fails, check_either, firsts_pass, firsts_none, firsts_found, firsts_either}
-use Rattle.image.proofs.Places.{plain_well, placed_well}
-use Rattle.image.proofs.Bytes.{nothing_placed}
+use Rattle.image.proofs.Refusing.{Checks, none_fails, passed_is, given_passes, firsts_pass, firsts_none, firsts_found, firsts_either}
+use Rattle.image.proofs.Places.{bad_told_is, told_image_well}
 
 -- ---- a fault with its place
 
-placed_passes : (p i : ℕ) (r : Refusal) → passes (placed p i r) ≡ passes r
-unfolding placed check
-placed_passes p i r = go (passes r) refl
-  where
-    go : (b : Bool) → passes r ≡ b → passes (check b (refusing_at r.number p i) none) ≡ b
-    go true e = refl
-    go false e = e
-
--- a fact of the numbers 41 to 44 and of 0 is one of a fault's number
-fault_number : (P : ℕ → Type 0) → P 41 → P 42 → P 43 → P 44 → P 0 → (op a b c i m : ℕ) → P (fault_of op a b c i m).number
-unfolding fault_of
-fault_number P operation register unused skip start op a b c i m =
-    let Q : Refusal → Type 0 = λ r. P r.number in
-    check_either Q (known op) operation
-    (check_either Q (each register_good (kinds_of op) a b c) register
-    (check_either Q (each unused_good (kinds_of op) a b c) unused
-    (check_either Q (each (skip_good i m) (kinds_of op) a b c) skip start)))
+placed_passes : (p i : ℕ) (r : Checks Fault) → passes (placed p i r) ≡ passes r
+unfolding placed
+placed_passes p i r = given_passes _ r
 
 -- ---- what a good instruction has passed
 
@@ -47,10 +31,10 @@ pub record GoodBytes (op a b c i m : ℕ) : Type 0 where
 good : (op a b c i m : ℕ) → passes (fault_of op a b c i m) ≡ true → GoodBytes op a b c i m
 unfolding fault_of
 good op a b c i m e =
-    let k = none_fails (known op) refusal.operation _ (λ z. omega arith) (eqb-true _ 0 e) in
-    let r = none_fails (each register_good (kinds_of op) a b c) refusal.register _ (λ z. omega arith) k.1 in
-    let u = none_fails (each unused_good (kinds_of op) a b c) refusal.unused _ (λ z. omega arith) r.1 in
-    let s = none_fails (each (skip_good i m) (kinds_of op) a b c) refusal.skip _ (λ z. omega arith) u.1 in
+    let k = none_fails (known op) fault.Operation _ (passed_is _ e) in
+    let r = none_fails (each register_good (kinds_of op) a b c) fault.Register _ k.1 in
+    let u = none_fails (each unused_good (kinds_of op) a b c) fault.Unused _ r.1 in
+    let s = none_fails (each (skip_good i m) (kinds_of op) a b c) fault.Skip _ u.1 in
     record { operation = k.0; registers = r.0; unused = u.0; skips = s.0 }
 
 -- each instruction of a good program
@@ -70,15 +54,17 @@ module _ (p : ℕ) (program : List ℕ) where
   unfolding program_fault program_good
   program_passes = firsts_pass _ (place_good program) place_is (instructions_of program)
 
-  pub program_none : (m : ℕ) → m ≡ instructions_of program → every m (λ i. place_good program i) ≡ true → none ≡ program_fault p program
-  unfolding program_fault place_good
-  program_none m e h =
-      firsts_none _ (place_good program) place_is (λ i good. sym (nothing_placed p i refl (eqb-true _ 0 good))) (instructions_of program) (rw e at h)
+  pub program_none : (m : ℕ) → m ≡ instructions_of program → every m (λ i. place_good program i) ≡ true → passed ≡ program_fault p program
+  unfolding program_fault
+  program_none m e h = firsts_none _ (place_good program) place_is (instructions_of program) (rw e at h)
 
   pub program_found : (i : ℕ) → i < instructions_of program → every i (λ k. place_good program k) ≡ true → place_good program i ≡ false
       → placed p i (fault_at program i) ≡ program_fault p program
   unfolding program_fault
   program_found i l = firsts_found _ (place_good program) place_is (instructions_of program) i l
+
+-- a loop over the instructions of a program
+pub ruleset instruction_by_instruction = (every_none, every_more, program_none, program_found)
 
 -- ---- several programs
 
@@ -87,29 +73,22 @@ module _ (part : ℕ → List ℕ) where
   unfolding code_fault
   code_passes = firsts_pass _ _ (λ p. program_passes p (part p))
 
-  pub code_none : (n : ℕ) → every n (λ p. program_good (part p)) ≡ true → none ≡ code_fault n part
-  unfolding code_fault program_good
-  code_none =
-      firsts_none _ (λ p. program_good (part p)) (λ p. program_passes p (part p)) (λ p good. sym (program_none p (part p) (instructions_of (part p)) refl good))
+  pub code_none : (n : ℕ) → every n (λ p. program_good (part p)) ≡ true → passed ≡ code_fault n part
+  unfolding code_fault
+  code_none = firsts_none _ (λ p. program_good (part p)) (λ p. program_passes p (part p))
 
   pub code_found : (n p : ℕ) → p < n → every p (λ q. program_good (part q)) ≡ true → program_good (part p) ≡ false → program_fault p (part p) ≡ code_fault n part
   unfolding code_fault
   code_found = firsts_found _ (λ p. program_good (part p)) (λ p. program_passes p (part p))
 
-  -- a fact of none and of each fault with its place is one of what is found
-  found_either : (P : Refusal → Type 0) → P none → ((p i : ℕ) → P (placed p i (fault_at (part p) i))) → (n : ℕ) → P (code_fault n part)
+  -- a fact of what has passed and of each fault with its place is one of what is found
+  pub found_either : (P : Checks BadInstruction → Type 0) → P passed → ((p i : ℕ) → P (placed p i (fault_at (part p) i))) → (n : ℕ) → P (code_fault n part)
   unfolding code_fault program_fault
   found_either P start each = firsts_either P _ start (λ p. firsts_either P _ start (each p) (instructions_of (part p)))
 
-  pub code_number : (P : ℕ → Type 0) → P 41 → P 42 → P 43 → P 44 → P 0 → (n : ℕ) → P (code_fault n part).number
-  unfolding fault_at placed
-  code_number P operation register unused skip start =
-      found_either (λ r. P r.number) start
-      (λ p i. check_either (λ r. P r.number) _ (fault_number P operation register unused skip start _ _ _ _ i _) start)
+  -- its numbers, as the image's refusal: 41 to 44 or 0, with the place where they say so
+  pub code_number : (P : ℕ → Type 0) → P 41 → P 42 → P 43 → P 44 → P 0 → (n : ℕ) → P (told_of_image (given_as image.Instruction (code_fault n part))).number
+  code_number P operation register unused skip start n = bad_told_is P operation register unused skip start (code_fault n part)
 
-  pub code_well : (n : ℕ) → WellPlaced (code_fault n part)
-  unfolding fault_at says_where
-  code_well =
-      found_either WellPlaced (plain_well 0)
-      (λ p i. placed_well p i (fault_at (part p) i)
-      (fault_number (λ n. eqb n 0 ≡ false → says_where n ≡ true) (λ e. refl) (λ e. refl) (λ e. refl) (λ e. refl) (λ e. sym e) _ _ _ _ i _))
+  pub code_well : (n : ℕ) → WellPlaced (told_of_image (given_as image.Instruction (code_fault n part)))
+  code_well n = told_image_well _

@@ -1,29 +1,31 @@
 -- Laws of the image's definitions: callers cite these and do not unfold. Assumes nothing.
-use mathlib.Core.Path.{◌≡◌, refl, sym, ap, ◌∙◌}
+use mathlib.Core.Path.{◌≡◌, refl, sym, ◌∙◌}
 use mathlib.Core.Bool.{true, false, ◌&&◌}
 use mathlib.Core.List.{List, [], ◌∷◌}
 use Prim.Native.Nat.{ℕ, zero, suc, ◌+◌, ◌-◌, ◌%◌, ◌≤◌, ◌<◌}
 use native.Mathlib.Nat.{add-zero, le_refl, le_trans, le_of_lt}
 use native.Mathlib.Omega.{arith}
-use borrow.Author.Tests.{leb-true, ltb-true, eqb-true, eq-eqb}
+use borrow.Author.Tests.{leb-true, ltb-true, eqb-true}
+use Rattle.std.specs.Prelude.{Err}
 use lib.ListN.{length, get_or, take, drop}
 use lib.Seq.{get_or-drop}
 use lib.Dec.{leb, ltb, eqb}
 use Rattle.base.specs.Words.{every, words}
 use Rattle.base.proofs.Bools.{and_left, and_both}
-use Rattle.base.proofs.Numbers.{every_at, every_false}
+use Rattle.base.proofs.Numbers.{every_at, every_none, every_more, every_false}
 use Rattle.base.proofs.Parts.{words_length}
 use Rattle.image.specs.Limits.{max_programs, instruction_bytes, max_program_bytes, head_bytes}
-use Rattle.image.specs.declared.Refusal.{Refusal}
-use Rattle.image.specs.Refusals as refusal
-use Rattle.image.specs.Refusals.{none, passes, of_fresh, says_where, WellPlaced}
+use Rattle.image.specs.declared.refusals.ImageRefusal.TheVariants as refused
+use Rattle.image.specs.declared.refusals.Refusal.{Refusal}
+use Rattle.image.specs.declared.refusals.Refusal.TheVariants as lent
+use Rattle.image.specs.Refusals.{passed, passes, told, told_of_image, WellPlaced}
 use Rattle.image.specs.Instruction.{instructions_of, program_fault, place_good, program_good}
 use Rattle.image.specs.Image.{byte_at, count_of, rule_byte, header_of, offset_of, bytes_of, part_of, Lies, size_good, header_good}
 use Rattle.image.specs.Image.{holds_offsets, first_good, rises, whole, short, extent_good, extents_good, last_good, offsets_good, code_good, code_refusal}
-use Rattle.image.specs.Image.{refusal_of, fresh_refusal_of, program_refusal_of, program_of, start_of}
-use Rattle.image.proofs.Refusing.{check_either, goes_on, none_fails, none_after, unless_refused, unless_done}
-use Rattle.image.proofs.Places.{plain_well}
-use Rattle.image.proofs.Faults.{code_passes, code_none, code_found, code_number, code_well}
+use Rattle.image.specs.Image.{refusal_of, image_checks, fresh_refusal_of, program_refusal_of, program_of, start_of, ProgramRefusalSays}
+use Rattle.image.proofs.Refusing.{Checks, passed_is, goes_on, none_fails, none_after, is_passed, passed_given, given_passing, unless_refused, unless_done}
+use Rattle.image.proofs.Places.{image_told_is, told_image_zero, told_well, told_image_well}
+use Rattle.image.proofs.Faults.{code_passes, code_none, code_found}
 
 -- ---- a program that lies in the image has as many bytes as its offsets say, and so at most 32 instructions of 4
 
@@ -92,7 +94,7 @@ part_bytes image bytes k =
 
 -- ---- check 4: the first bad instruction, with its fault and its place
 
-pub no_code_refusal : (image : List ℕ) (p : ℕ) → p ≡ count_of image → every p (λ q. program_good (part_of image q)) ≡ true → none ≡ code_refusal image
+pub no_code_refusal : (image : List ℕ) (p : ℕ) → p ≡ count_of image → every p (λ q. program_good (part_of image q)) ≡ true → passed ≡ code_refusal image
 unfolding code_refusal
 no_code_refusal image p e h = code_none (part_of image) (count_of image) (rw e at h)
 
@@ -108,6 +110,9 @@ program_bad part i l bad = every_false (instructions_of part) (λ k. place_good 
 pub program_good_lem : (part : List ℕ) (i : ℕ) → i ≡ instructions_of part → every i (λ k. place_good part k) ≡ true → program_good part ≡ true
 unfolding program_good
 program_good_lem part i e h = rw e at h
+
+-- a loop over the programs and their instructions
+pub ruleset program_by_program = (every_none, every_more, lies, part_short, program_good_lem, program_bad, no_code_refusal, code_refused)
 
 -- it passes exactly where every instruction is good
 pub code_good_is : (image : List ℕ) → passes (code_refusal image) ≡ code_good image
@@ -129,51 +134,42 @@ pub record Accepted (image : List ℕ) : Type 0 where
   pub offsets : offsets_good image ≡ true
   pub code : code_good image ≡ true
 
-pub accepted : (image : List ℕ) → (refusal_of image).number ≡ 0 → Accepted image
+pub accepted : (image : List ℕ) → refusal_of image ≡ passed → Accepted image
 unfolding refusal_of
 accepted image e =
-    let a = none_fails (size_good image) refusal.image_size _ (λ z. omega arith) e in
-    let b = none_fails (header_good (header_of image)) refusal.header _ (λ z. omega arith) a.1 in
-    let c = none_fails (offsets_good image) refusal.offsets _ (λ z. omega arith) b.1 in
-    record { size = a.0; header = b.0; offsets = c.0; code = sym (code_good_is image) ∙ eq-eqb _ _ c.1 }
+    let a = none_fails (size_good image) refused.Size _ e in
+    let b = none_fails (header_good (header_of image)) refused.Header _ a.1 in
+    let c = none_fails (offsets_good image) refused.Offsets _ b.1 in
+    let code = passed_given refused.Instruction (code_refusal image) c.1 in
+    record { size = a.0; header = b.0; offsets = c.0; code = sym (code_good_is image) ∙ is_passed code }
 
-pub accepted_is : (image : List ℕ) → Accepted image → none ≡ refusal_of image
+pub accepted_is : (image : List ℕ) → Accepted image → passed ≡ refusal_of image
 unfolding refusal_of code_good
-accepted_is image a = goes_on _ a.size (goes_on _ a.header (goes_on _ a.offsets (no_code_refusal image (count_of image) refl a.code)))
+accepted_is image a =
+    goes_on _ a.size
+    (goes_on _ a.header
+    (goes_on _ a.offsets
+    (given_passing refused.Instruction (no_code_refusal image (count_of image) refl a.code) refl)))
+
+-- by number
+pub accepted_told : (image : List ℕ) → (told_of_image (refusal_of image)).number ≡ 0 → Accepted image
+accepted_told image e = accepted image (told_image_zero (refusal_of image) e)
 
 -- a fact of the numbers 1 to 3, 41 to 44 and 0 is one of its number
-pub refusal_number : (P : ℕ → Type 0) → P 1 → P 2 → P 3 → P 41 → P 42 → P 43 → P 44 → P 0 → (image : List ℕ) → P (refusal_of image).number
-unfolding refusal_of code_refusal
+pub refusal_number : (P : ℕ → Type 0) → P 1 → P 2 → P 3 → P 41 → P 42 → P 43 → P 44 → P 0 → (image : List ℕ) → P (told_of_image (refusal_of image)).number
 refusal_number P size header offsets operation register unused skip start image =
-    let Q : Refusal → Type 0 = λ r. P r.number in
-    check_either Q (size_good image) size
-    (check_either Q (header_good (header_of image)) header
-    (check_either Q (offsets_good image) offsets
-    (code_number (part_of image) P operation register unused skip start (count_of image))))
+    image_told_is P size header offsets operation register unused skip start (refusal_of image)
 
 -- which is at most 44
-pub refusal_few : (image : List ℕ) → (refusal_of image).number ≤ 44
+pub refusal_few : (image : List ℕ) → (told_of_image (refusal_of image)).number ≤ 44
 refusal_few = refusal_number (λ n. n ≤ 44) (omega arith) (omega arith) (omega arith) (omega arith) (omega arith) (omega arith) (omega arith) (omega arith)
 
 -- its place is meant
-pub refusal_well : (image : List ℕ) → WellPlaced (refusal_of image)
-unfolding refusal_of code_refusal
-refusal_well image =
-    check_either WellPlaced (size_good image) (plain_well 1)
-    (check_either WellPlaced (header_good (header_of image)) (plain_well 2)
-    (check_either WellPlaced (offsets_good image) (plain_well 3)
-    (code_well (part_of image) (count_of image))))
+pub refusal_well : (image : List ℕ) → WellPlaced (told_of_image (refusal_of image))
+refusal_well image = told_image_well (refusal_of image)
 
-pub fresh_well : (image : List ℕ) → WellPlaced (fresh_refusal_of image)
-unfolding fresh_refusal_of says_where
-fresh_well image =
-    check_either WellPlaced _
-    (record {
-      nowhere = λ e.
-          ap of_fresh ((refusal_well image).nowhere
-          (refusal_number (λ n. says_where (20 + n) ≡ false → says_where n ≡ false) (λ f. refl) (λ f. refl) (λ f. refl) (λ f. f) (λ f. f) (λ f. f) (λ f. f) (λ f. refl) image e));
-    })
-    (plain_well 0)
+pub fresh_well : (image : List ℕ) → WellPlaced (told (fresh_refusal_of image))
+fresh_well image = told_well (fresh_refusal_of image)
 
 pub few_programs_lem : (image : List ℕ) → header_good (header_of image) ≡ true → count_of image ≤ max_programs
 unfolding header_good
@@ -184,22 +180,40 @@ few_programs_lem image h =
 
 -- ---- a program that is handed back
 
-pub handed_back : (image : List ℕ) (p : ℕ) → (program_refusal_of image p).number ≡ 0 → ((refusal_of image).number ≡ 0) × (p < count_of image)
+pub handed_back : (image : List ℕ) (p : ℕ) → program_refusal_of image p ≡ passed → (refusal_of image ≡ passed) × (p < count_of image)
 unfolding program_refusal_of
 handed_back image p e =
-    let a = none_after (refusal_of image) _ e in
-    let b = none_fails (ltb p (count_of image)) refusal.number _ (λ z. omega arith) a.1 in
-    (a.0, ltb-true _ _ b.0)
+    let a = none_after (image_checks image) _ e in
+    let b = none_fails (ltb p (count_of image)) lent.Number _ a.1 in
+    (passed_given lent.Image (refusal_of image) a.0, ltb-true _ _ b.0)
 
-pub handed_low : (image : List ℕ) (p : ℕ) → (program_refusal_of image p).number ≡ 0 → p < max_programs
+pub handed_low : (image : List ℕ) (p : ℕ) → program_refusal_of image p ≡ passed → p < max_programs
 handed_low image p e = let h = handed_back image p e in omega (arith, few_programs_lem image (accepted image h.0).header)
 
 -- it is its part of the image, from its offset on; on a refusal it is empty
-pub handed_part : (image : List ℕ) (p : ℕ) → (program_refusal_of image p).number ≡ 0
-    → (program_of image p ≡ part_of image p) × (start_of image p ≡ offset_of image p)
+pub handed_part : (image : List ℕ) (p : ℕ) → program_refusal_of image p ≡ passed → (program_of image p ≡ part_of image p) × (start_of image p ≡ offset_of image p)
 unfolding program_of start_of
 handed_part image p e = (unless_done (program_refusal_of image p) _ _ e, unless_done (program_refusal_of image p) _ _ e)
 
-pub handed_nothing : (image : List ℕ) (p : ℕ) → ((program_refusal_of image p).number ≡ 0 → ⊥) → (program_of image p ≡ []) × (start_of image p ≡ 0)
+pub handed_nothing : (image : List ℕ) (p : ℕ) {e : Refusal} → program_refusal_of image p ≡ Err e → (program_of image p ≡ []) × (start_of image p ≡ 0)
 unfolding program_of start_of
 handed_nothing image p h = (unless_refused (program_refusal_of image p) _ _ h, unless_refused (program_refusal_of image p) _ _ h)
+
+-- all of this, where the code is told that nothing is refused
+pub record Handed (image : List ℕ) (p : ℕ) : Type 0 where
+  pub lies_there : Lies image p
+  pub low : p < max_programs
+  pub part : program_of image p ≡ part_of image p
+  pub start : start_of image p ≡ offset_of image p
+
+pub handed_when : (image : List ℕ) (p : ℕ) {r : Checks Refusal} → ProgramRefusalSays image p r → passes r ≡ true → Handed image p
+handed_when image p {r} says ok =
+    let found = sym says.answer ∙ passed_is r ok in
+    let asked = handed_back image p found in
+    let is = handed_part image p found in
+    record {
+      lies_there = lies image (accepted image asked.0).offsets p asked.1;
+      low = handed_low image p found;
+      part = is.0;
+      start = is.1;
+    }

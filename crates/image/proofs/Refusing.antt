@@ -4,80 +4,176 @@ use mathlib.Core.Logic.{◌⊎◌, inl, inr}
 use mathlib.Core.Bool.{Bool, true, false, not, cond, ◌&&◌}
 use Prim.Native.Nat.{ℕ, zero, suc, ◌<◌}
 use native.Mathlib.Nat.{not-suc-le-zero}
-use borrow.Author.Tests.{eqb-true, eqb-false, eq-eqb, ne_eqb, not-true, not-false}
+use borrow.Author.Tests.{not-true, not-false}
+use Rattle.std.specs.Prelude.{Result, Ok, Err}
+use Rattle.std.specs.Result.{IsErr, IsErrAnd, MatchResult}
+use Rattle.std.proofs.lemmas.Result.{err_from_is_err_and}
 use Rattle.base.specs.Words.{every}
-use Rattle.base.proofs.Bools.{and_both}
 use Rattle.base.proofs.Numbers.{below}
-use Rattle.image.specs.declared.Refusal.{Refusal}
-use Rattle.image.specs.Refusals.{none, check, passes, after, first_of, unless}
+use Rattle.image.specs.Refusals.{passed, check, passes, after, first_of, given_as, unless}
+
+-- what checks of one kind answer
+abbrev pub Checks : Type 0 → Type 0
+Checks E = Result (Unit {0}) E
+
+-- ---- checks pass, or one of them refuses, and not both
+
+pub never_both : {E : Type 0} {r : Checks E} {e : E} → r ≡ passed → r ≡ Err e → ⊥
+never_both p q = cc
+
+pub one_refusal : {E : Type 0} {r : Checks E} {e f : E} → r ≡ Err e → r ≡ Err f → e ≡ f
+one_refusal p q = cc
+
+-- a fact of what has passed, and of each refusal, is one of the checks
+pub either : {E : Type 0} (P : Checks E → Type 0) (r : Checks E) → (r ≡ passed → P passed) → ((e : E) → r ≡ Err e → P (Err e)) → P r
+either P (Ok done) p q = p refl
+either P (Err e) p q = q e refl
+
+-- as a test says it
+pub passed_is : {E : Type 0} (r : Checks E) → passes r ≡ true → r ≡ passed
+passed_is (Ok done) e = refl
+passed_is (Err r) e = cc
+
+pub is_passed : {E : Type 0} {r : Checks E} → r ≡ passed → passes r ≡ true
+is_passed e = rw e
+
+pub refused_is : {E : Type 0} (r : Checks E) → passes r ≡ false → (e : E) × (r ≡ Err e)
+refused_is (Ok done) e = absurd (cc)
+refused_is (Err r) e = (r, refl)
+
+pub is_refused : {E : Type 0} {r : Checks E} {e : E} → r ≡ Err e → passes r ≡ false
+is_refused e = rw e
+
+-- ---- a check, and the rest
 
 -- it fails: the answer is the refusal that it gives
-pub fails : {holds : Bool} {gives : Refusal} (rest : Refusal) → holds ≡ false → gives ≡ check holds gives rest
+pub fails : {E : Type 0} {holds : Bool} {gives : E} (rest : Checks E) → holds ≡ false → Err gives ≡ check holds gives rest
 unfolding check
 fails rest e = rw e
 
 -- it passes: the answer is that of the rest
-pub goes_on : {holds : Bool} {rest x : Refusal} (gives : Refusal) → holds ≡ true → x ≡ rest → x ≡ check holds gives rest
+pub goes_on : {E : Type 0} {holds : Bool} {rest x : Checks E} (gives : E) → holds ≡ true → x ≡ rest → x ≡ check holds gives rest
 unfolding check
 goes_on gives e f = rw e f
 
 -- none fails
-pub none_fails : (holds : Bool) (gives rest : Refusal) → (gives.number ≡ 0 → ⊥) → (check holds gives rest).number ≡ 0 → (holds ≡ true) × (rest.number ≡ 0)
+pub none_fails : {E : Type 0} (holds : Bool) (gives : E) (rest : Checks E) → check holds gives rest ≡ passed → (holds ≡ true) × (rest ≡ passed)
 unfolding check
-none_fails true gives rest h e = (refl, e)
-none_fails false gives rest h e = absurd (h e)
+none_fails true gives rest e = (refl, e)
+none_fails false gives rest e = absurd (cc)
+
+-- what is refused is not what this check gives: it has passed, and the rest refuses
+pub behind : {E : Type 0} {e : E} (holds : Bool) (gives : E) (rest : Checks E) → (gives ≡ e → ⊥) → check holds gives rest ≡ Err e → (holds ≡ true) × (rest ≡ Err e)
+unfolding check
+behind true gives rest other f = (refl, f)
+behind false gives rest other f = absurd (other (cc))
 
 -- a fact of what it gives and of the rest is one of the two together
-pub check_either : (P : Refusal → Type 0) (holds : Bool) {gives rest : Refusal} → P gives → P rest → P (check holds gives rest)
+pub check_either : {E : Type 0} (P : Checks E → Type 0) (holds : Bool) {gives : E} {rest : Checks E} → P (Err gives) → P rest → P (check holds gives rest)
 unfolding check
 check_either P true g r = r
 check_either P false g r = g
 
+pub check_passes : {E : Type 0} (holds : Bool) (gives : E) (rest : Checks E) → passes (check holds gives rest) ≡ holds && passes rest
+unfolding check
+check_passes true gives rest = refl
+check_passes false gives rest = refl
+
 -- the first two as the code has them: `if !test { return gives; }`
-pub refuses : {test holds : Bool} {gives : Refusal} (rest : Refusal) → test ≡ holds → not test ≡ true → gives ≡ check holds gives rest
+pub refuses : {E : Type 0} {test holds : Bool} {gives : E} (rest : Checks E) → test ≡ holds → not test ≡ true → Err gives ≡ check holds gives rest
 refuses rest e f = fails rest (sym e ∙ not-true _ f)
 
-pub accepts : {test holds : Bool} {rest x : Refusal} (gives : Refusal) → test ≡ holds → not test ≡ false → x ≡ rest → x ≡ check holds gives rest
+pub accepts : {E : Type 0} {test holds : Bool} {rest x : Checks E} (gives : E) → test ≡ holds → not test ≡ false → x ≡ rest → x ≡ check holds gives rest
 accepts gives e f = goes_on gives (sym e ∙ not-false _ f)
 
 -- ---- all the checks of another call first
 
-pub number_of : {r s : Refusal} → r ≡ s → r.number ≡ s.number
-number_of e = ap (λ (r : Refusal). r.number) e
+pub first_refuses : {E : Type 0} {r checks : Checks E} {e : E} (rest : Checks E) → r ≡ checks → r ≡ Err e → Err e ≡ after checks rest
+unfolding after
+first_refuses rest p q = rw (sym p ∙ q)
 
-pub first_refuses : {r checks : Refusal} (rest : Refusal) → r ≡ checks → (r.number ≡ 0 → ⊥) → r ≡ after checks rest
-first_refuses {checks = checks} rest e h = e ∙ fails rest (ne_eqb checks.number 0 (λ z. h (number_of e ∙ z)))
+pub first_passes : {E : Type 0} {r checks rest x : Checks E} → r ≡ checks → r ≡ passed → x ≡ rest → x ≡ after checks rest
+unfolding after
+first_passes p q f = rw (sym p ∙ q) f
 
-pub first_passes : {r checks rest x : Refusal} → r ≡ checks → r.number ≡ 0 → x ≡ rest → x ≡ after checks rest
-first_passes {checks = checks} e h = goes_on checks (eq-eqb checks.number 0 (number_of (sym e) ∙ h))
+pub none_after : {E : Type 0} (checks rest : Checks E) → after checks rest ≡ passed → (checks ≡ passed) × (rest ≡ passed)
+unfolding after
+none_after (Ok done) rest e = (refl, e)
+none_after (Err r) rest e = absurd (cc)
 
-pub none_after : (checks rest : Refusal) → (after checks rest).number ≡ 0 → (checks.number ≡ 0) × (rest.number ≡ 0)
-unfolding check
-none_after checks rest e = go (passes checks) refl e
+pub after_either : {E : Type 0} (P : Checks E → Type 0) (checks : Checks E) {rest : Checks E} → P checks → P rest → P (after checks rest)
+unfolding after
+after_either P (Ok done) c r = r
+after_either P (Err e) c r = c
+
+pub after_passes : {E : Type 0} (checks rest : Checks E) → passes (after checks rest) ≡ passes checks && passes rest
+unfolding after
+after_passes (Ok done) rest = refl
+after_passes (Err r) rest = refl
+
+-- ---- the same refusal, as one of another kind
+
+pub given_passed : {E F : Type 0} (kind : E → F) {r : Checks E} → r ≡ passed → given_as kind r ≡ passed
+unfolding given_as
+given_passed kind e = rw e
+
+pub passed_given : {E F : Type 0} (kind : E → F) (r : Checks E) → given_as kind r ≡ passed → r ≡ passed
+unfolding given_as
+passed_given kind (Ok done) e = refl
+passed_given kind (Err r) e = absurd (cc)
+
+pub given_refused : {E F : Type 0} (kind : E → F) {r : Checks E} {e : E} → r ≡ Err e → given_as kind r ≡ Err (kind e)
+unfolding given_as
+given_refused kind e = rw e
+
+pub refused_given : {E F : Type 0} (kind : E → F) (r : Checks E) {f : F} → given_as kind r ≡ Err f → (e : E) × (r ≡ Err e) × (f ≡ kind e)
+unfolding given_as
+refused_given kind (Ok done) g = absurd (cc)
+refused_given kind (Err e) g = (e, refl, cc)
+
+pub given_passes : {E F : Type 0} (kind : E → F) (r : Checks E) → passes (given_as kind r) ≡ passes r
+unfolding given_as
+given_passes kind (Ok done) = refl
+given_passes kind (Err e) = refl
+
+-- as the code has them: r is what the checks gave, and `?` hands out its refusal as one of the other kind
+pub given_refuses : {E F : Type 0} (kind : E → F) {r checks : Checks E} {e : E} → r ≡ checks → r ≡ Err e → Err (kind e) ≡ given_as kind checks
+given_refuses kind p q = sym (given_refused kind (sym p ∙ q))
+
+pub given_passing : {E F : Type 0} (kind : E → F) {r checks : Checks E} → r ≡ checks → r ≡ passed → passed ≡ given_as kind checks
+given_passing kind p q = sym (given_passed kind (sym p ∙ q))
+
+-- what `?` hands out, of the same kind or as another
+pub handed_out : {E : Type 0} {r : Checks E} {e : E} → IsErr r × IsErrAnd r (λ f. f ≡ e) → r ≡ Err e
+handed_out {r = r} p = let f = err_from_is_err_and r p.1 in f.1 ∙ ap Err f.2
+
+-- what `map_err` makes of what the checks gave, by a closure of which each call gives it, and by a variant
+pub given_through : {E F : Type 0} (kind : E → F) {r checks : Checks E} {x : Checks F} {Q : E → F → Type 0} → r ≡ checks
+    → MatchResult r (λ done. x ≡ Ok done) (λ e. IsErrAnd x (λ f. Q e f)) → ((e : E) (f : F) → Q e f → f ≡ kind e) → x ≡ given_as kind checks
+unfolding given_as
+given_through {E} {F} kind {x = x} {Q = Q} p m gives = rw p at (go _ m)
   where
-    go : (b : Bool) → passes checks ≡ b → (check b checks rest).number ≡ 0 → (checks.number ≡ 0) × (rest.number ≡ 0)
-    go true p f = (eqb-true _ _ p, f)
-    go false p f = absurd (eqb-false _ _ p f)
+    go : (r : Checks E) → MatchResult r (λ done. x ≡ Ok done) (λ e. IsErrAnd x (λ f. Q e f)) → x ≡ given_as kind r
+    go (Ok done) m = m
+    go (Err e) m = let f = err_from_is_err_and x m in f.1 ∙ ap Err (gives e f.0 f.2)
+
+pub given_by : {E F : Type 0} (kind : E → F) {r checks : Checks E} {x : Checks F} → r ≡ checks
+    → MatchResult r (λ done. x ≡ Ok done) (λ e. IsErrAnd x (λ f. f ≡ kind e)) → x ≡ given_as kind checks
+given_by kind p m = given_through kind {Q = λ e f. f ≡ kind e} p m (λ e f is. is)
+
+-- all of these, for a function that answers check by check
+pub ruleset checking = (fails, goes_on, first_refuses, first_passes, given_refuses, given_passing, handed_out)
 
 -- ---- the first of several, of which a test says whether each passes
 
-module _ (refusal : ℕ → Refusal) (good : ℕ → Bool) (is : (k : ℕ) → passes (refusal k) ≡ good k) where
+module _ {E : Type 0} (refusal : ℕ → Checks E) (good : ℕ → Bool) (is : (k : ℕ) → passes (refusal k) ≡ good k) where
   pub firsts_pass : (n : ℕ) → passes (first_of n refusal) ≡ every n good
-  unfolding first_of every check
-  firsts_pass zero = refl
-  firsts_pass (suc n) = go (passes (first_of n refusal)) refl ∙ ap (λ (b : Bool). b && good n) (firsts_pass n)
-    where
-      go : (b : Bool) → passes (first_of n refusal) ≡ b → passes (check b (first_of n refusal) (refusal n)) ≡ b && good n
-      go true e = is n
-      go false e = e
-
-  -- none, where no refusal passes but `none`
-  pub firsts_none : ((k : ℕ) → good k ≡ true → refusal k ≡ none) → (n : ℕ) → every n good ≡ true → none ≡ first_of n refusal
   unfolding first_of every
-  firsts_none each zero e = refl
-  firsts_none each (suc n) e =
-      let t = and_both (every n good) (good n) e in
-      goes_on (first_of n refusal) (firsts_pass n ∙ t.0) (sym (each n t.1))
+  firsts_pass zero = refl
+  firsts_pass (suc n) = after_passes (first_of n refusal) (refusal n) ∙ rw (firsts_pass n, is n)
+
+  pub firsts_none : (n : ℕ) → every n good ≡ true → passed ≡ first_of n refusal
+  firsts_none n e = sym (passed_is (first_of n refusal) (firsts_pass n ∙ e))
 
   -- one that does not pass, and all before it do
   pub firsts_found : (n k : ℕ) → k < n → every k good ≡ true → good k ≡ false → refusal k ≡ first_of n refusal
@@ -86,48 +182,46 @@ module _ (refusal : ℕ → Refusal) (good : ℕ → Bool) (is : (k : ℕ) → p
   firsts_found (suc n) k l e h = go (below k n l) (λ less. firsts_found n k less e h)
     where
       go : (k ≡ n) ⊎ (k < n) → (k < n → refusal k ≡ first_of n refusal) → refusal k ≡ after (first_of n refusal) (refusal n)
-      go (inl same) ih = goes_on (first_of n refusal) (firsts_pass n ∙ rw (← same) e) (ap refusal same)
-      go (inr less) ih = ih less ∙ fails (refusal n) (ap (λ (r : Refusal). passes r) (sym (ih less)) ∙ is k ∙ h)
+      go (inl same) ih = first_passes refl (passed_is (first_of n refusal) (firsts_pass n ∙ rw (← same) e)) (ap refusal same)
+      go (inr less) ih = let found = refused_is (refusal k) (is k ∙ h) in found.1 ∙ first_refuses (refusal n) (ih less) found.1
 
--- a fact of none and of each is one of the first
-pub firsts_either : (P : Refusal → Type 0) (refusal : ℕ → Refusal) → P none → ((k : ℕ) → P (refusal k)) → (n : ℕ) → P (first_of n refusal)
+-- a fact of what has passed and of each is one of the first
+pub firsts_either : {E : Type 0} (P : Checks E → Type 0) (refusal : ℕ → Checks E) → P passed → ((k : ℕ) → P (refusal k)) → (n : ℕ) → P (first_of n refusal)
 unfolding first_of
 firsts_either P refusal start each zero = start
-firsts_either P refusal start each (suc n) = check_either P _ (firsts_either P refusal start each n) (each n)
+firsts_either P refusal start each (suc n) = after_either P (first_of n refusal) (firsts_either P refusal start each n) (each n)
 
 -- ---- a call that may be refused
 
-module _ {A : Type 0} (r : Refusal) (refused : Refusal → A) (done : A) where
-  pub unless_refused : (r.number ≡ 0 → ⊥) → unless r refused done ≡ refused r
+module _ {E A : Type 0} (r : Checks E) (refused : E → A) (done : A) where
+  pub unless_refused : {e : E} → r ≡ Err e → unless r refused done ≡ refused e
   unfolding unless
-  unless_refused h = rw (ne_eqb r.number 0 h)
+  unless_refused h = rw h
 
-  pub unless_done : r.number ≡ 0 → unless r refused done ≡ done
+  pub unless_done : r ≡ passed → unless r refused done ≡ done
   unfolding unless
-  unless_done e = rw (eq-eqb r.number 0 e)
+  unless_done e = rw e
 
 -- as the code has them: r is what the checks gave
-pub refused_as_lem : {A : Type 0} {r checks : Refusal} (refused : Refusal → A) (done : A) → r ≡ checks → (r.number ≡ 0 → ⊥) → refused r ≡ unless checks refused done
-refused_as_lem refused done e h = ap refused e ∙ sym (unless_refused _ refused done (λ z. h (number_of e ∙ z)))
+pub refused_as_lem : {E A : Type 0} {r checks : Checks E} {e : E} (refused : E → A) (done : A) → r ≡ checks → r ≡ Err e → refused e ≡ unless checks refused done
+refused_as_lem refused done p q = sym (unless_refused _ refused done (sym p ∙ q))
 
-pub done_as : {A : Type 0} {r checks : Refusal} {x done : A} (refused : Refusal → A) → r ≡ checks → r.number ≡ 0 → x ≡ done → x ≡ unless checks refused done
-done_as refused e h f = f ∙ sym (unless_done _ refused _ (number_of (sym e) ∙ h))
+pub done_as : {E A : Type 0} {r checks : Checks E} {x done : A} (refused : E → A) → r ≡ checks → r ≡ passed → x ≡ done → x ≡ unless checks refused done
+done_as refused p q f = f ∙ sym (unless_done _ refused _ (sym p ∙ q))
 
 -- a fact of what is refused and of what is done is one of the call
-pub unless_either : {A : Type 0} (P : A → Type 0) (r : Refusal) (refused : Refusal → A) (done : A) → P (refused r) → (r.number ≡ 0 → P done) → P (unless r refused done)
+pub unless_either : {E A : Type 0} (P : A → Type 0) (r : Checks E) (refused : E → A) (done : A) → ((e : E) → r ≡ Err e → P (refused e)) → (r ≡ passed → P done)
+    → P (unless r refused done)
 unfolding unless
-unless_either P r refused done p q = go (passes r) refl
-  where
-    go : (b : Bool) → passes r ≡ b → P (cond b done (refused r))
-    go true e = q (eqb-true _ _ e)
-    go false e = p
+unless_either P (Ok d) refused done p q = q refl
+unless_either P (Err e) refused done p q = p e refl
 
 -- where the checks before have passed, the last one decides
-pub last_decides : {A : Type 0} (checks gives : Refusal) (holds : Bool) (refused : Refusal → A) (done : A) → checks.number ≡ 0 → (gives.number ≡ 0 → ⊥)
-    → cond holds done (refused gives) ≡ unless (after checks (check holds gives none)) refused done
-unfolding check unless
-last_decides {A} checks gives holds refused done e h = rw (eq-eqb checks.number 0 e) (go holds)
+pub last_decides : {E A : Type 0} (checks : Checks E) (gives : E) (holds : Bool) (refused : E → A) (done : A) → checks ≡ passed
+    → cond holds done (refused gives) ≡ unless (after checks (check holds gives passed)) refused done
+unfolding check unless after
+last_decides {E} {A} checks gives holds refused done e = rw e (go holds)
   where
-    go : (b : Bool) → cond b done (refused gives) ≡ unless (check b gives none) refused done
+    go : (b : Bool) → cond b done (refused gives) ≡ unless (check b gives passed) refused done
     go true = refl
-    go false = rw (ne_eqb gives.number 0 h)
+    go false = refl

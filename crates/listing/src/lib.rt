@@ -12,12 +12,7 @@ ghost use Rattle.base.specs.Masks.{word_bits};
 ghost use Rattle.listing.specs.Readers.{octet_size, with_bits, bits_for, committed_reads, CellsAt, Octet, ReadersOf, SetIn, Added, Blockers, ToList};
 ghost use Rattle.listing.specs.Masks.{free, Picked, Slots};
 
-// What the listed order answers.
-#[derive(Clone, Copy)]
-pub enum Listed {
-    Refused(image::Refusal),
-    Count(usize),
-}
+use image::Refusal;
 
 // How many programs a group has: those of them that read a cell are the bits of a byte.
 const OCTET: usize = 8;
@@ -230,21 +225,26 @@ fn list_all(
     all: u64,
     blockers: &[u64; image::Image::PROGRAMS],
     list: &mut [u32],
-) -> Listed
+) -> Result<usize, Refusal>
     requires { ToList cells n all area.now blockers.now list.old }
     ensures { Lists cells n area.now list.old result list.new }
 {
     let mut taken: [u8; image::Image::PROGRAMS] = [0; image::Image::PROGRAMS];
     let found = pick_all(blockers, all, n, &mut taken);
     if found != masks::count(all, n) {
-        return Listed::Refused(image::Refusal::NO_ORDER);
+        return Err(Refusal::NoOrder);
     }
     copy_order(&taken, found, list);
-    Listed::Count(found)
+    Ok(found)
 }
 
 // The same, where checks 1 to 10 have been made.
-pub fn order_checked(area: &[u32], cells: usize, n: usize, list: &mut [u32]) -> Listed
+pub fn order_checked(
+    area: &[u32],
+    cells: usize,
+    n: usize,
+    list: &mut [u32],
+) -> Result<usize, Refusal>
     requires { Measured cells n area.now × Slots area.now cells n × (n ≤ length list.old) }
     ensures { Lists cells n area.now list.old result list.new }
 {
@@ -261,26 +261,26 @@ fn list_refusal(
     guards: &[u32],
     area: &[u32],
     list: &[u32],
-) -> image::Refusal
+) -> Result<(), Refusal>
     ensures { result ≡ list_refusal image.now table.now guards.now area.now list.now }
 {
-    let refused = area::ended_refusal(image, table, guards, area);
-    if refused.number != 0 {
-        return refused;
-    }
+    area::ended_refusal(image, table, guards, area)?;
     if list.len() < image::count(image) {
-        return image::Refusal::TOO_SHORT;
+        return Err(Refusal::TooShort);
     }
-    image::Refusal::NONE
+    Ok(())
 }
 
 // The listed order of a batch whose programs are all settled: each committed program once, and how many there are.
-pub fn order(image: &[u8], table: &[u32], guards: &[u32], area: &[u32], list: &mut [u32]) -> Listed
+pub fn order(
+    image: &[u8],
+    table: &[u32],
+    guards: &[u32],
+    area: &[u32],
+    list: &mut [u32],
+) -> Result<usize, Refusal>
     ensures { OrderSays image.now table.now guards.now area.now list.old result list.new }
 {
-    let refused = list_refusal(image, table, guards, area, list);
-    if refused.number != 0 {
-        return Listed::Refused(refused);
-    }
+    list_refusal(image, table, guards, area, list)?;
     order_checked(area, table.len(), image::count(image), list)
 }

@@ -1,57 +1,63 @@
 // The numbers of what gathering and settling answer (document 01, "What each refusal says") and of why a program was carried (document 02, ask 3).
 #![tactic(auto)]
 
+ghost use Rattle.std.specs.Prelude.{◌<◌, ◌^◌};
+ghost use Rattle.image.specs.Refusals.{numbers_of_count};
 ghost use Rattle.steps.specs.Answers.{done_with, refused_by, numbers_of_gathered, numbers_of_settled};
 ghost use Rattle.causes.specs.Why.{numbers_for, numbers_of_why};
-ghost use Rattle.numbers.specs.Numbers.{Tells, CauseTells};
+ghost use Rattle.numbers.specs.Numbers.{Tells, CauseTells, CountTells};
+
+use causes::Why;
+use image::{Refusal, RefusalNumbers};
 
 // The refusal, or none with the slot's state and detail.
 #[repr(C)]
 #[derive(Clone, Copy)]
 pub struct StepNumbers {
-    pub refusal: image::Refusal,
+    pub refusal: RefusalNumbers,
     pub state: u32,
     pub detail: u32,
 }
 
-fn refused(refusal: image::Refusal) -> StepNumbers
-    ensures { Tells (refused_by refusal) result }
-{
-    StepNumbers {
-        refusal,
-        state: 0,
-        detail: 0,
+impl StepNumbers {
+    fn refused(refusal: Refusal) -> StepNumbers
+        ensures { Tells (refused_by refusal) result }
+    {
+        StepNumbers {
+            refusal: RefusalNumbers::from(refusal),
+            state: 0,
+            detail: 0,
+        }
     }
-}
 
-fn done(state: u32, detail: u32) -> StepNumbers
-    ensures { Tells (done_with state detail) result }
-{
-    StepNumbers {
-        refusal: image::Refusal::NONE,
-        state,
-        detail,
+    fn done(state: u32, detail: u32) -> StepNumbers
+        ensures { Tells (done_with state detail) result }
+    {
+        StepNumbers {
+            refusal: RefusalNumbers::NONE,
+            state,
+            detail,
+        }
     }
 }
 
 // Of gathering.
-pub fn of_gathered(answer: steps::Gathered) -> StepNumbers
+pub fn of_gathered(answer: Result<machine::Run, Refusal>) -> StepNumbers
     ensures { Tells (numbers_of_gathered answer) result }
 {
     match answer {
-        steps::Gathered::Refused(refusal) => refused(refusal),
-        steps::Gathered::Ran(run) => done(machine::state_of(run), machine::detail_of(run)),
+        Ok(run) => StepNumbers::done(machine::state_of(run), machine::detail_of(run)),
+        Err(refusal) => StepNumbers::refused(refusal),
     }
 }
 
 // Of settling.
-pub fn of_settled(answer: steps::Settled) -> StepNumbers
+pub fn of_settled(answer: Result<steps::Settled, Refusal>) -> StepNumbers
     ensures { Tells (numbers_of_settled answer) result }
 {
     match answer {
-        steps::Settled::Refused(refusal) => refused(refusal),
-        steps::Settled::Committed => done(steps::state_of(answer), steps::detail_of(answer)),
-        steps::Settled::Carried(_) => done(steps::state_of(answer), steps::detail_of(answer)),
+        Ok(settled) => StepNumbers::done(steps::state_of(settled), steps::detail_of(settled)),
+        Err(refusal) => StepNumbers::refused(refusal),
     }
 }
 
@@ -59,7 +65,7 @@ pub fn of_settled(answer: steps::Settled) -> StepNumbers
 #[repr(C)]
 #[derive(Clone, Copy)]
 pub struct CauseNumbers {
-    pub refusal: image::Refusal,
+    pub refusal: RefusalNumbers,
     pub reason: u32,
     pub cell: u32,
     pub program: u32,
@@ -71,7 +77,7 @@ fn carried_for(reason: steps::Reason, cause: causes::Cause, war: causes::Cause) 
     ensures { CauseTells (numbers_for reason cause war) result }
 {
     CauseNumbers {
-        refusal: image::Refusal::NONE,
+        refusal: RefusalNumbers::NONE,
         reason: steps::reason_number(reason),
         cell: cause.cell,
         program: cause.program,
@@ -81,7 +87,7 @@ fn carried_for(reason: steps::Reason, cause: causes::Cause, war: causes::Cause) 
 }
 
 // Of why a program was carried: reasons 1 and 2 leave the second pair 0.
-pub fn of_why(answer: causes::Why) -> CauseNumbers
+pub fn of_why(answer: Result<Why, Refusal>) -> CauseNumbers
     ensures { CauseTells (numbers_of_why answer) result }
 {
     let none = causes::Cause {
@@ -89,16 +95,41 @@ pub fn of_why(answer: causes::Why) -> CauseNumbers
         program: 0,
     };
     match answer {
-        causes::Why::Refused(refusal) => CauseNumbers {
-            refusal,
+        Ok(Why::Waw(cause)) => carried_for(steps::Reason::Waw, cause, none),
+        Ok(Why::Raw(cause)) => carried_for(steps::Reason::Raw, cause, none),
+        Ok(Why::RawWithWar(raw, war)) => carried_for(steps::Reason::RawWithWar, raw, war),
+        Err(refusal) => CauseNumbers {
+            refusal: RefusalNumbers::from(refusal),
             reason: 0,
             cell: 0,
             program: 0,
             war_cell: 0,
             war_program: 0,
         },
-        causes::Why::Waw(cause) => carried_for(steps::Reason::Waw, cause, none),
-        causes::Why::Raw(cause) => carried_for(steps::Reason::Raw, cause, none),
-        causes::Why::RawWithWar(raw, war) => carried_for(steps::Reason::RawWithWar, raw, war),
+    }
+}
+
+// The refusal, or none with a count: of the listed order how many programs it has, of the next image how many bytes.
+#[repr(C)]
+#[derive(Clone, Copy)]
+pub struct CountNumbers {
+    pub refusal: RefusalNumbers,
+    pub count: u32,
+}
+
+// Of a call that counts.
+pub fn of_count(answer: Result<usize, Refusal>) -> CountNumbers
+    requires { (numbers_of_count answer).count < 2 ^ 32 }
+    ensures { CountTells (numbers_of_count answer) result }
+{
+    match answer {
+        Ok(count) => CountNumbers {
+            refusal: RefusalNumbers::NONE,
+            count: count as u32,
+        },
+        Err(refusal) => CountNumbers {
+            refusal: RefusalNumbers::from(refusal),
+            count: 0,
+        },
     }
 }

@@ -4,13 +4,15 @@ use Rattle.std.specs.Prelude.{ℕ, ◌+◌, List, [], ◌∷◌, ◌++◌, lengt
 use Rattle.text.specs.Ascii.{ascii}
 use Rattle.text.specs.Decimal.{decimal}
 use Rattle.text.specs.Filled.{filled}
-use Rattle.image.specs.declared.Refusal.{Refusal}
+use Rattle.image.specs.declared.refusals.Refusal.{Refusal}
+use Rattle.image.specs.declared.refusals.RefusalNumbers.{RefusalNumbers}
+use Rattle.image.specs.Refusals.{numbers_of}
 
 unfoldable pub refused_line : Refusal → List ℕ
-refused_line refusal = filled (ascii "refused #\n") (refusal.number ∷ [])
+refused_line refusal = filled (ascii "refused #\n") ((numbers_of refusal).number ∷ [])
 
 -- with a line's number, which is as wide as a sheet may be long
-unfoldable pub refused_at_line : Refusal → (line : ℕ) → List ℕ
+unfoldable pub refused_at_line : RefusalNumbers → (line : ℕ) → List ℕ
 refused_at_line refusal line = filled (ascii "refused # line ") (refusal.number ∷ []) ++ (decimal line ++ ascii "\n")
 
 -- no such line has more bytes: its text, the digits of a number of 32 bits and those of one of 64

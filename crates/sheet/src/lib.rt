@@ -8,6 +8,8 @@ mod reading;
 
 pub use reading::{line_of, part_end};
 
+use image::{ImageRefusal, Refusal};
+
 // An instruction: its operation, a number from 0 to 8 that has a name, and its three bytes.
 #[derive(Clone, Copy)]
 pub struct Instruction {
@@ -26,13 +28,33 @@ pub enum Line {
     Other,
 }
 
-// What the calls answer that read a sheet or an image and write the other: how many bytes they wrote, or why they wrote none; of a line that its place
-// does not allow its number, from 1.
-#[derive(Clone, Copy)]
-pub enum Written {
-    Refused(image::Refusal),
+// Why a call that reads a sheet or an image and writes the other writes nothing: as other calls, or for a line that its place does not allow, with its
+// number, from 1.
+#[derive(Clone, Copy, PartialEq, Eq)]
+pub enum Unwritten {
+    Refused(Refusal),
     BadLine(usize),
-    Length(usize),
+}
+
+impl From<Refusal> for Unwritten {
+    ghost use Rattle.sheet.specs.declared.Unwritten.TheVariants.{Refused};
+
+    ghost from_gives = { λ refusal r. r ≡ Refused refusal };
+
+    fn from(refusal: Refusal) -> Unwritten {
+        Unwritten::Refused(refusal)
+    }
+}
+
+impl From<ImageRefusal> for Unwritten {
+    ghost use Rattle.image.specs.declared.refusals.Refusal.TheVariants.{Image};
+    ghost use Rattle.sheet.specs.declared.Unwritten.TheVariants.{Refused};
+
+    ghost from_gives = { λ image r. r ≡ Refused (Image image) };
+
+    fn from(image: ImageRefusal) -> Unwritten {
+        Unwritten::Refused(Refusal::Image(image))
+    }
 }
 
 // How many operations have a name.

@@ -12,22 +12,25 @@
 // Once all are settled, `why` says why a program was carried, and `comes_before` before whom a program comes that read a cell as it was.
 // A sheet is an image as a text that can be typed: `image_of` reads a sheet and writes its image, `sheet_of` reads an image and writes its sheet.
 // Beside these, `program` hands back one program as a part of the image, and `program_refusal` says why it does not.
-// `second_rule` says whether Rule 2 is in force; `of_gathered`, `of_settled` and `of_why` give the numbers of an answer.
-// Every call answers for every input. A refusal carries its number from document 01 and changes nothing that was lent; 0 is none.
+// `second_rule` says whether Rule 2 is in force; `of_gathered`, `of_settled`, `of_why` and `of_count` give the numbers of an answer.
+// Every call answers for every input. A refusal changes nothing that was lent; `RefusalNumbers::from` gives its number in document 01, of `Ok(())` 0.
 #![tactic(auto)]
 
 pub use area::area_words;
-pub use carry::{Next, next_image};
-pub use causes::{Before, Cause, Why, comes_before, why};
+pub use carry::next_image;
+pub use causes::{Cause, Why, comes_before, why};
 pub use from_image::{LONGEST_SHEET, sheet_of};
 pub use from_sheet::image_of;
 pub use guard::full_range;
-pub use image::{Image, Refusal, program, program_refusal, second_rule};
-pub use listing::{Listed, order};
-pub use machine::Run;
-pub use numbers::{CauseNumbers, StepNumbers, of_gathered, of_settled, of_why};
-pub use sheet::Written;
-pub use steps::{Gathered, Reason, Settled, gather, open, settle};
+pub use image::{
+    BadInstruction, Fault, Image, ImageRefusal, Refusal, RefusalNumbers, program, program_refusal,
+    second_rule,
+};
+pub use listing::order;
+pub use machine::{FaultKind, Run};
+pub use numbers::{CauseNumbers, CountNumbers, StepNumbers, of_count, of_gathered, of_settled, of_why};
+pub use sheet::Unwritten;
+pub use steps::{Reason, Settled, gather, open, settle};
 
 // A program's slot in the work area, and the most words that an area has.
 pub const SLOT_WORDS: usize = slot::WORDS;

@@ -2,12 +2,13 @@
 #![tactic(auto)]
 
 ghost use Rattle.std.specs.Prelude.{◌≡◌, ◌^◌, ◌<◌};
-ghost use Rattle.listing.specs.Listing.{numbers_of_listed};
-ghost use Rattle.carry.specs.Next.{numbers_of_next};
 ghost use Rattle.sheetbendle_c.specs.Calls.{PartTells, ProgramRefusalTells, OpenTells, GatherTells, SettleTells};
 ghost use Rattle.sheetbendle_c.specs.Calls.{WhyTells, CountTells, OrderTells, NextTells};
 ghost use Rattle.sheet.specs.Answers.{numbers_of_written};
 ghost use Rattle.sheetbendle_c.specs.Calls.{line_shown, TextTells, ImageOfTells, SheetOfTells};
+
+use image::RefusalNumbers;
+use sheet::Unwritten;
 
 // Where a program's part of the image begins, and how long it is.
 #[repr(C)]
@@ -17,19 +18,11 @@ pub struct PartNumbers {
     pub length: usize,
 }
 
-// The refusal, or none with the order's count or the next image's length.
-#[repr(C)]
-#[derive(Clone, Copy)]
-pub struct CountNumbers {
-    pub refusal: image::Refusal,
-    pub count: u32,
-}
-
 // The refusal, or none with the length written; of refusal 51 also the line.
 #[repr(C)]
 #[derive(Clone, Copy)]
 pub struct TextNumbers {
-    pub refusal: image::Refusal,
+    pub refusal: RefusalNumbers,
     pub length: u32,
     pub line: u32,
 }
@@ -44,10 +37,10 @@ pub extern "C" fn sheetbendle_program(image: &[u8], number: usize) -> PartNumber
 }
 
 #[unsafe(no_mangle)]
-pub extern "C" fn sheetbendle_program_refusal(image: &[u8], number: usize) -> image::Refusal
+pub extern "C" fn sheetbendle_program_refusal(image: &[u8], number: usize) -> RefusalNumbers
     ensures { ProgramRefusalTells image.now number result }
 {
-    image::program_refusal(image, number)
+    RefusalNumbers::from(image::program_refusal(image, number))
 }
 
 #[unsafe(no_mangle)]
@@ -56,10 +49,10 @@ pub extern "C" fn sheetbendle_open(
     table: &[u32],
     guards: &[u32],
     area: &mut [u32],
-) -> image::Refusal
+) -> RefusalNumbers
     ensures { OpenTells image.now table.now guards.now area.old result area.new }
 {
-    steps::open(image, table, guards, area)
+    RefusalNumbers::from(steps::open(image, table, guards, area))
 }
 
 #[unsafe(no_mangle)]
@@ -101,20 +94,6 @@ pub extern "C" fn sheetbendle_why(
     numbers::of_why(causes::why(image, table, guards, area, number))
 }
 
-// The numbers of the listed order's answer.
-fn of_listed(answer: listing::Listed) -> CountNumbers
-    requires { (numbers_of_listed answer).count < 2 ^ 32 }
-    ensures { CountTells (numbers_of_listed answer) result }
-{
-    match answer {
-        listing::Listed::Refused(refusal) => CountNumbers { refusal, count: 0 },
-        listing::Listed::Count(count) => CountNumbers {
-            refusal: image::Refusal::NONE,
-            count: count as u32,
-        },
-    }
-}
-
 #[unsafe(no_mangle)]
 pub extern "C" fn sheetbendle_order(
     image: &[u8],
@@ -122,24 +101,10 @@ pub extern "C" fn sheetbendle_order(
     guards: &[u32],
     area: &[u32],
     list: &mut [u32],
-) -> CountNumbers
+) -> numbers::CountNumbers
     ensures { OrderTells image.now table.now guards.now area.now list.old result list.new }
 {
-    of_listed(listing::order(image, table, guards, area, list))
-}
-
-// The numbers of the next image's answer.
-fn of_next(answer: carry::Next) -> CountNumbers
-    requires { (numbers_of_next answer).count < 2 ^ 32 }
-    ensures { CountTells (numbers_of_next answer) result }
-{
-    match answer {
-        carry::Next::Refused(refusal) => CountNumbers { refusal, count: 0 },
-        carry::Next::Length(length) => CountNumbers {
-            refusal: image::Refusal::NONE,
-            count: length as u32,
-        },
-    }
+    numbers::of_count(listing::order(image, table, guards, area, list))
 }
 
 #[unsafe(no_mangle)]
@@ -150,43 +115,39 @@ pub extern "C" fn sheetbendle_next_image(
     area: &[u32],
     fresh: &[u8],
     out: &mut [u8],
-) -> CountNumbers
+) -> numbers::CountNumbers
     ensures { NextTells image.now table.now guards.now area.now fresh.now out.old result out.new }
 {
-    of_next(carry::next_image(image, table, guards, area, fresh, out))
+    numbers::of_count(carry::next_image(image, table, guards, area, fresh, out))
 }
 
 // A line's number as far as 32 bits show it.
 fn line_shown(line: usize) -> u32
     ensures { result ≡ line_shown line }
 {
-    if line < 4294967296 {
-        line as u32
-    } else {
-        4294967295
-    }
+    line.min(u32::MAX as usize) as u32
 }
 
 // The numbers of an answer that has a text's length.
-fn of_written(answer: sheet::Written) -> TextNumbers
+fn of_written(answer: Result<usize, Unwritten>) -> TextNumbers
     requires { (numbers_of_written answer).length < 2 ^ 32 }
     ensures { TextTells (numbers_of_written answer) result }
 {
     match answer {
-        sheet::Written::Refused(refusal) => TextNumbers {
-            refusal,
-            length: 0,
-            line: 0,
-        },
-        sheet::Written::BadLine(line) => TextNumbers {
-            refusal: image::Refusal::LINE,
-            length: 0,
-            line: line_shown(line),
-        },
-        sheet::Written::Length(length) => TextNumbers {
-            refusal: image::Refusal::NONE,
+        Ok(length) => TextNumbers {
+            refusal: RefusalNumbers::NONE,
             length: length as u32,
             line: 0,
+        },
+        Err(Unwritten::Refused(refusal)) => TextNumbers {
+            refusal: RefusalNumbers::from(refusal),
+            length: 0,
+            line: 0,
+        },
+        Err(Unwritten::BadLine(line)) => TextNumbers {
+            refusal: RefusalNumbers::LINE,
+            length: 0,
+            line: line_shown(line),
         },
     }
 }
@@ -202,5 +163,5 @@ pub extern "C" fn sheetbendle_image_of(sheet: &[u8], out: &mut [u8]) -> TextNumb
 pub extern "C" fn sheetbendle_sheet_of(image: &[u8], out: &mut [u8]) -> TextNumbers
     ensures { SheetOfTells image.now out.old result out.new }
 {
-    of_written(from_image::sheet_of(image, out))
+    of_written(from_image::sheet_of(image, out).map_err(Unwritten::Refused))
 }

@@ -4,20 +4,15 @@
 ghost use Rattle.std.specs.Prelude.{◌≡◌, ◌<◌, length};
 ghost use Rattle.image.specs.Image.{count_of};
 ghost use Rattle.area.specs.Checks.{Checked, Paired, Measured, Slotted};
-ghost use Rattle.steps.specs.Answers.{numbers_of_settled, reason_number};
+ghost use Rattle.steps.specs.Answers.{state_of_settled, detail_of_settled, reason_number};
 ghost use Rattle.steps.specs.Opening.{OpenSays};
 ghost use Rattle.steps.specs.Gathering.{step_refusal, gather_refusal, GatherSays, Gathers, RunsInto};
 ghost use Rattle.steps.specs.Settling.{is_ready, settle_refusal, verdict, with_cells, settled_by, settled_table, SettleSays, Settles};
 
-// What gathering answers.
-#[derive(Clone, Copy)]
-pub enum Gathered {
-    Refused(image::Refusal),
-    Ran(machine::Run),
-}
+use image::Refusal;
 
 // Why a program is carried: one reason out of three.
-#[derive(Clone, Copy)]
+#[derive(Clone, Copy, PartialEq, Eq)]
 pub enum Reason {
     Waw,
     Raw,
@@ -25,9 +20,8 @@ pub enum Reason {
 }
 
 // What settling answers.
-#[derive(Clone, Copy)]
+#[derive(Clone, Copy, PartialEq, Eq)]
 pub enum Settled {
-    Refused(image::Refusal),
     Committed,
     Carried(Reason),
 }
@@ -42,15 +36,17 @@ pub enum Verdict {
 }
 
 // Opening sets the whole area to 0.
-pub fn open(image: &[u8], table: &[u32], guards: &[u32], area: &mut [u32]) -> image::Refusal
+pub fn open(
+    image: &[u8],
+    table: &[u32],
+    guards: &[u32],
+    area: &mut [u32],
+) -> Result<(), Refusal>
     ensures { OpenSays image.now table.now guards.now area.old result area.new }
 {
-    let refused = area::open_refusal(image::image_refusal(image), image, table, guards, area);
-    if refused.number != 0 {
-        return refused;
-    }
+    area::open_refusal(image::image_refusal(image), image, table, guards, area)?;
     slot::clear(area);
-    image::Refusal::NONE
+    Ok(())
 }
 
 // Checks 1 to 8, with 14 in its place, which every step begins with.
@@ -60,17 +56,14 @@ pub fn step_refusal(
     guards: &[u32],
     area: &[u32],
     number: usize,
-) -> image::Refusal
+) -> Result<(), Refusal>
     ensures { result ≡ step_refusal image.now table.now guards.now area.now number }
 {
-    let refused = area::call_refusal(image::image_refusal(image), image, table, guards, area);
-    if refused.number != 0 {
-        return refused;
-    }
+    area::call_refusal(image::image_refusal(image), image, table, guards, area)?;
     if image::count(image) <= number {
-        return image::Refusal::NUMBER;
+        return Err(Refusal::Number);
     }
-    image::Refusal::NONE
+    Ok(())
 }
 
 // Checks 1 to 9 of gathering.
@@ -80,17 +73,14 @@ fn gather_refusal(
     guards: &[u32],
     area: &[u32],
     number: usize,
-) -> image::Refusal
+) -> Result<(), Refusal>
     ensures { result ≡ gather_refusal image.now table.now guards.now area.now number }
 {
-    let refused = step_refusal(image, table, guards, area, number);
-    if refused.number != 0 {
-        return refused;
-    }
+    step_refusal(image, table, guards, area, number)?;
     if area::state(area, table.len(), number) != slot::WAITING {
-        return image::Refusal::STATE;
+        return Err(Refusal::State);
     }
-    image::Refusal::NONE
+    Ok(())
 }
 
 // The program's run, from its part of the image into its slot.
@@ -147,14 +137,11 @@ pub fn gather(
     guards: &[u32],
     area: &mut [u32],
     number: usize,
-) -> Gathered
+) -> Result<machine::Run, Refusal>
     ensures { GatherSays image.now table.now guards.now area.old number result area.new }
 {
-    let refused = gather_refusal(image, table, guards, area, number);
-    if refused.number != 0 {
-        return Gathered::Refused(refused);
-    }
-    Gathered::Ran(gather_checked(image, table, guards, area, number))
+    gather_refusal(image, table, guards, area, number)?;
+    Ok(gather_checked(image, table, guards, area, number))
 }
 
 // Check 9 of settling: whether no program of n waits, and this one is to be settled.
@@ -175,17 +162,14 @@ fn settle_refusal(
     guards: &[u32],
     area: &[u32],
     number: usize,
-) -> image::Refusal
+) -> Result<(), Refusal>
     ensures { result ≡ settle_refusal image.now table.now guards.now area.now number }
 {
-    let refused = step_refusal(image, table, guards, area, number);
-    if refused.number != 0 {
-        return refused;
-    }
+    step_refusal(image, table, guards, area, number)?;
     if !is_ready(area, table.len(), image::count(image), number) {
-        return image::Refusal::STATE;
+        return Err(Refusal::State);
     }
-    image::Refusal::NONE
+    Ok(())
 }
 
 // The decision on a program, by the marks and the rule: WAW is looked at first, and WAR only where Rule 2 has found RAW.
@@ -196,22 +180,19 @@ pub fn judge(image: &[u8], area: &[u32], cells: usize, number: usize) -> Verdict
     let reads = slot::ListKind::Reads;
     let stores = slot::ListKind::Stores;
     let write = area::MarkKind::Write;
-    let waw = area::lowest(area, cells, number, stores, write);
-    if waw < cells {
+    if let Some(waw) = area::lowest(area, cells, number, stores, write) {
         return Verdict::Waw(waw);
     }
-    let raw = area::lowest(area, cells, number, reads, write);
-    if cells <= raw {
+    let Some(raw) = area::lowest(area, cells, number, reads, write) else {
         return Verdict::Commit;
-    }
+    };
     if !image::second_rule(image) {
         return Verdict::Raw(raw);
     }
-    let war = area::lowest(area, cells, number, stores, area::MarkKind::Read);
-    if war < cells {
-        return Verdict::RawWithWar(raw, war);
+    match area::lowest(area, cells, number, stores, area::MarkKind::Read) {
+        Some(war) => Verdict::RawWithWar(raw, war),
+        None => Verdict::Commit,
     }
-    Verdict::Commit
 }
 
 // The decision alone.
@@ -239,10 +220,9 @@ pub fn reason_number(reason: Reason) -> u32
 
 // The state that a decision leaves.
 pub fn state_of(settled: Settled) -> u32
-    ensures { result ≡ (numbers_of_settled settled).state }
+    ensures { result ≡ state_of_settled settled }
 {
     match settled {
-        Settled::Refused(_) => 0,
         Settled::Committed => slot::COMMITTED,
         Settled::Carried(_) => slot::CARRIED,
     }
@@ -250,10 +230,9 @@ pub fn state_of(settled: Settled) -> u32
 
 // The detail that it leaves.
 pub fn detail_of(settled: Settled) -> u32
-    ensures { result ≡ (numbers_of_settled settled).detail }
+    ensures { result ≡ detail_of_settled settled }
 {
     match settled {
-        Settled::Refused(_) => 0,
         Settled::Committed => 0,
         Settled::Carried(reason) => reason_number(reason),
     }
@@ -265,7 +244,6 @@ fn store_committed(settled: Settled, table: &mut [u32], area: &[u32], number: us
     ensures { table.new ≡ settled_table settled number area.now table.old }
 {
     match settled {
-        Settled::Refused(_) => {}
         Settled::Committed => area::commit(table, area, number),
         Settled::Carried(_) => {}
     }
@@ -290,12 +268,9 @@ pub fn settle(
     guards: &[u32],
     area: &mut [u32],
     number: usize,
-) -> Settled
+) -> Result<Settled, Refusal>
     ensures { SettleSays image.now table.old guards.now area.old number result table.new area.new }
 {
-    let refused = settle_refusal(image, table, guards, area, number);
-    if refused.number != 0 {
-        return Settled::Refused(refused);
-    }
-    settle_checked(image, table, area, number)
+    settle_refusal(image, table, guards, area, number)?;
+    Ok(settle_checked(image, table, area, number))
 }
