@@ -1,4 +1,5 @@
--- The laws of signed numbers and guards: the code's comparison is the signed one, and the list that is made for the full range has it. Assumes nothing.
+-- The laws of signed numbers and guards: the code's comparison is the signed one, and the list that is made for the full range has it.
+-- Assumes nothing.
 use Rattle.std.proofs.Common.{int_lt, ◌≡◌, ℕ, suc, ◌+◌, ◌-◌, ◌*◌, ◌%◌, ◌^◌, ◌<◌, ◌≤◌, true, false, not, ltb, List, pos, negsuc, ◌∙◌, arith, le-ltb, lt-ltb, eq-eqb, ne_eqb}
 use Rattle.std.proofs.lemmas.Int.{ints}
 use Rattle.std.proofs.lemmas.Bool.Decides.{nat_tests}

@@ -135,7 +135,8 @@ unfolding once
 once_old c xs k e = rw e
 
 -- each law of `once` is shown for a new cell and for an old one
-once_by_lem : (c : ℕ) (xs : List ℕ) (P : List ℕ → Type 0) → (place_in c xs ≡ 0 → P (xs ++ (c ∷ []))) → ((k : ℕ) → place_in c xs ≡ suc k → P xs) → P (once c xs)
+once_by_lem : (c : ℕ) (xs : List ℕ) (P : List ℕ → Type 0) → (place_in c xs ≡ 0 → P (xs ++ (c ∷ [])))
+    → ((k : ℕ) → place_in c xs ≡ suc k → P xs) → P (once c xs)
 unfolding once
 once_by_lem c xs P new old = go (place_in c xs) refl
   where
