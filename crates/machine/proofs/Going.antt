@@ -19,7 +19,6 @@ use Rattle.machine.specs.Runs.{Runnable, Ready, Did, Ends}
 use Rattle.machine.proofs.Named.{first_byte}
 use Rattle.machine.proofs.Asked.{ask_forward}
 use Rattle.machine.proofs.Laws.{by_ask, turn_fits}
-use Rattle.machine.proofs.Turns.{did_as}
 
 -- ---- a turn's answer tells the step
 
@@ -155,7 +154,7 @@ module _ {may : Judge} {p t : List ℕ} {m : Machine} {slot : List ℕ} (runs : 
 
   module _ {r : Turned} {slot' : List ℕ} (u : m.place < instructions_of p) (d : Did m (perform may t m (log_of slot) (ask_read p m)) r slot') where
     did_is : Did m (perform may t m g.log (ask_at p m)) r slot'
-    did_is = rw log_is at (did_as may t (log_of slot) (ask_read_lem p m) d)
+    did_is = rw (log_is, ← ask_read_lem p m) at d
 
     abbrev taken : Effect
     taken = perform may t m g.log (ask_at p m)
