@@ -153,7 +153,7 @@ impl Machine {
         requires { (a < registers) × (self.place < max_instructions) }
         ensures { result ≡ written self a (256 * b + c) }
     {
-        self.written(a, 256 * (b as u32) + (c as u32))
+        self.written(a, 256 * u32::from(b) + u32::from(c))
     }
 
     fn add(self, a: u8, b: u8, c: u8) -> Machine
@@ -221,16 +221,15 @@ impl Machine {
     {
         let c = self.register(b);
         let i = c as usize;
-        if i < table.len() {
-            match slot::stored_place(slot, c) {
-                Some(k) => self.written(a, slot[slot::VALUES + k]).goes(),
-                None => {
-                    slot::note_read(slot, c);
-                    self.written(a, table[i]).goes()
-                }
+        if i >= table.len() {
+            return self.faults(FaultKind::Load);
+        }
+        match slot::stored_place(slot, c) {
+            Some(k) => self.written(a, slot[slot::VALUES + k]).goes(),
+            None => {
+                slot::note_read(slot, c);
+                self.written(a, table[i]).goes()
             }
-        } else {
-            self.faults(FaultKind::Load)
         }
     }
 
@@ -242,14 +241,14 @@ impl Machine {
         let c = self.register(a);
         let v = self.register(b);
         let i = c as usize;
-        if i < table.len() {
-            if guard::admits(guards, i, v) {
-                slot::note_store(slot, c, v);
-                return self.passed().goes();
-            }
+        if i >= table.len() {
+            return self.faults(FaultKind::Store);
+        }
+        if !guard::admits(guards, i, v) {
             return self.faults(FaultKind::Guard);
         }
-        self.faults(FaultKind::Store)
+        slot::note_store(slot, c, v);
+        self.passed().goes()
     }
 
     // One turn: the instruction op, a, b, c.
@@ -370,6 +369,7 @@ fn finish(slot: &mut [u32], run: Run)
 }
 
 // The run of a program on a table, with the table's guards: its answer, and its whole slot.
+#[tactic(auto, using(crate::proofs::Ends::outcome_log, crate::proofs::Ends::outcome_words, crate::proofs::Ends::end_is))]
 pub fn run_program(program: &[u8], table: &[u32], guards: &[u32], slot: &mut [u32]) -> Run
     requires { CanRun program.now table.now guards.now slot.old }
     ensures { RunSays program.now table.now guards.now result slot.new }
@@ -380,8 +380,9 @@ pub fn run_program(program: &[u8], table: &[u32], guards: &[u32], slot: &mut [u3
     run
 }
 
-// The store at which a program's run stopped, where it did: the cell and the value that the instruction at its end names. It runs the program again, in a slot
-// that is lent for it.
+// The store at which a program's run stopped, where it did: the cell and the value that the instruction at its end names. It runs the program again,
+// in a slot that is lent for it.
+#[tactic(auto, using(crate::proofs::Laws::last_registers))]
 pub fn last_store(program: &[u8], table: &[u32], guards: &[u32], slot: &mut [u32]) -> Store
     requires { CanRun program.now table.now guards.now slot.old }
     ensures { LastStore program.now table.now guards.now result slot.new }
