@@ -85,6 +85,7 @@ fn lowered(m: u32, k: u32) -> u32
 }
 
 // The program reserves each cell of the list of count words at a place, in the marks that begin at `marks`.
+#[tactic(auto, using(crate::proofs::Loops::reserve_none))]
 fn reserve_cells(area: &mut [u32], marks: usize, at: usize, count: usize, number: usize)
     requires { Names marks at count area.old × (number < max_programs) }
     ensures { area.new ≡ reserve marks (words at count area.old) number area.old }
@@ -121,6 +122,7 @@ fn lower_cell(area: &[u32], marks: usize, number: usize, found: usize, cell: usi
 }
 
 // The lowest cell of the list whose mark names an earlier program; `cells` where there is none.
+#[tactic(auto, using(crate::proofs::LowestCells::lowest_none))]
 fn lowest_of(
     area: &[u32],
     cells: usize,
@@ -140,6 +142,7 @@ fn lowest_of(
 }
 
 // The stores of the list go into the table.
+#[tactic(auto, using(crate::proofs::Loops::store_none))]
 fn store_all(table: &mut [u32], area: &[u32], cells: usize, values: usize, count: usize)
     requires { Storing cells values count area.now table.old }
     ensures { table.new ≡ stored_by cells values count area.now table.old }
