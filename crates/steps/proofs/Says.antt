@@ -102,48 +102,40 @@ module _ (image t g a : List ℕ) (k : ℕ) (r : Checks Refusal) (e : r ≡ sett
         area = done_as (λ r. a) e h w.area;
       }
 
--- the decision, from the cells that have been found: a cell below T shows its dependency
-module _ (image a : List ℕ) (T k : ℕ) (s : Slotted T k a) where
-  has : (l : ListKind) (m : MarkKind) → lowest l m T k a < T → depends l m T k a ≡ true
-  has l m h = depends_lowest l m T k a s ∙ lt-ltb _ _ h
-
-  has_none : (l : ListKind) (m : MarkKind) → T ≤ lowest l m T k a → depends l m T k a ≡ false
-  has_none l m h = depends_lowest l m T k a s ∙ le-ltb _ _ h
-
-  -- what settling decides, with its cells
-  abbrev decision : Verdict
-  decision = with_cells (verdict image T k a) T k a
-
-  pub with_waw : lowest Stores Write T k a < T → judged.Waw (lowest Stores Write T k a) ≡ decision
+-- the decision with its cells, from what the program depends on: WAW decides alone, and so does no RAW; under Rule 2 WAR decides on RAW
+module _ (image a : List ℕ) (T k : ℕ) where
+  pub decides_waw : waw T k a ≡ true → with_cells (verdict image T k a) T k a ≡ judged.Waw (lowest Stores Write T k a)
   unfolding verdict decided by_rule1 by_rule2 with_cells
-  with_waw w = rw (has Stores Write w) (go (second_rule image))
+  decides_waw w = rw w (go (second_rule image))
     where
-      go : (second : Bool) → judged.Waw (lowest Stores Write T k a) ≡ with_cells (decided second true (raw T k a) (war T k a)) T k a
+      go : (second : Bool) → with_cells (decided second true (raw T k a) (war T k a)) T k a ≡ judged.Waw (lowest Stores Write T k a)
       go true = refl
       go false = refl
 
-  module _ (w : T ≤ lowest Stores Write T k a) where
-    pub without_raw : T ≤ lowest Reads Write T k a → judged.Commit ≡ decision
-    unfolding verdict decided by_rule1 by_rule2 with_cells
-    without_raw r = rw (has_none Stores Write w, has_none Reads Write r) (go (second_rule image))
-      where
-        go : (second : Bool) → judged.Commit ≡ with_cells (decided second false false (war T k a)) T k a
-        go true = refl
-        go false = refl
+  pub decides_none : waw T k a ≡ false → raw T k a ≡ false → with_cells (verdict image T k a) T k a ≡ judged.Commit
+  unfolding verdict decided by_rule1 by_rule2 with_cells
+  decides_none w r = rw (w, r) (go (second_rule image))
+    where
+      go : (second : Bool) → with_cells (decided second false false (war T k a)) T k a ≡ judged.Commit
+      go true = refl
+      go false = refl
 
-    module _ (r : lowest Reads Write T k a < T) where
-      pub raw_by_rule_1 : second_rule image ≡ false → judged.Raw (lowest Reads Write T k a) ≡ decision
-      unfolding verdict decided by_rule1 with_cells
-      raw_by_rule_1 e = rw (e, has_none Stores Write w, has Reads Write r)
+  pub decides_raw : waw T k a ≡ false → raw T k a ≡ true → second_rule image ≡ false
+      → with_cells (verdict image T k a) T k a ≡ judged.Raw (lowest Reads Write T k a)
+  unfolding verdict decided by_rule1 with_cells
+  decides_raw w r e = rw (e, w, r)
 
-      module _ (e : second_rule image ≡ true) where
-        pub raw_with_war_lem : lowest Stores Read T k a < T → judged.RawWithWar (lowest Reads Write T k a) (lowest Stores Read T k a) ≡ decision
-        unfolding verdict decided by_rule2 with_cells
-        raw_with_war_lem v = rw (e, has_none Stores Write w, has Reads Write r, has Stores Read v)
+  pub decides_war : waw T k a ≡ false → raw T k a ≡ true → second_rule image ≡ true → war T k a ≡ true
+      → with_cells (verdict image T k a) T k a ≡ judged.RawWithWar (lowest Reads Write T k a) (lowest Stores Read T k a)
+  unfolding verdict decided by_rule2 with_cells
+  decides_war w r e v = rw (e, w, r, v)
 
-        pub raw_alone : T ≤ lowest Stores Read T k a → judged.Commit ≡ decision
-        unfolding verdict decided by_rule2 with_cells
-        raw_alone v = rw (e, has_none Stores Write w, has Reads Write r, has_none Stores Read v)
+  pub decides_no_war : waw T k a ≡ false → raw T k a ≡ true → second_rule image ≡ true → war T k a ≡ false
+      → with_cells (verdict image T k a) T k a ≡ judged.Commit
+  unfolding verdict decided by_rule2 with_cells
+  decides_no_war w r e v = rw (e, w, r, v)
+
+pub ruleset deciding = (depends_lowest, decides_waw, decides_none, decides_raw, decides_war, decides_no_war)
 
 -- without its cells it is the decision again
 pub cells_dropped : (image a : List ℕ) (T k : ℕ) → settled_by (with_cells (verdict image T k a) T k a) ≡ verdict image T k a
