@@ -1,6 +1,6 @@
 -- Document 01, "Bench sheet": "The program reads T in two bytes (low first), T cells of four bytes (low first), then the image." And where the input has guards
 -- (document 02, ask 5), the T pairs stand behind the cells and before the image. Assumes nothing.
-use Rattle.std.specs.Prelude.{ℕ, ◌+◌, ◌*◌, Bool, cond, ◌&&◌, List, leb, length, drop}
+use Rattle.std.specs.Prelude.{ℕ, ◌+◌, ◌*◌, Bool, cond, ◌&&◌, List, leb, length, drop, Option, Some, None}
 use Rattle.base.specs.Words.{tabulate}
 use Rattle.image.specs.Limits.{min_cells, max_cells}
 use Rattle.image.specs.Image.{byte_at, number_at}
@@ -38,6 +38,6 @@ unfoldable pub prefix_good : List ℕ → Bool
 prefix_good input =
     leb (prefix_bytes (cells_named input)) (length input) && leb min_cells (cells_named input) && leb (cells_named input) max_cells
 
--- T where the prefix is good, else 0
-unfoldable pub cells_of : List ℕ → ℕ
-cells_of input = cond (prefix_good input) (cells_named input) 0
+-- T where the prefix is good
+unfoldable pub cells_of : List ℕ → Option ℕ
+cells_of input = cond (prefix_good input) (Some (cells_named input)) None

@@ -58,21 +58,21 @@ fn wide(byte: u8) -> u32
     byte as u32
 }
 
-// T, where the prefix is good: the input has the bytes that it needs, and T is within 1 to 256. Otherwise 0.
-pub fn cells_of(input: &[u8]) -> usize
+// T, where the prefix is good: the input has the bytes that it needs, and T is within 1 to 256.
+pub fn cells_of(input: &[u8]) -> Option<usize>
     ensures { result ≡ cells_of input.now }
 {
     if input.len() < COUNT_BYTES {
-        return 0;
+        return None;
     }
     let cells = (wide(input[0]) + 256 * wide(input[1])) as usize;
-    if image::Image::CELLS < cells {
-        return 0;
+    if !(image::Image::LEAST_CELLS..=image::Image::CELLS).contains(&cells) {
+        return None;
     }
     if input.len() < COUNT_BYTES + CELL_BYTES * cells {
-        return 0;
+        return None;
     }
-    cells
+    Some(cells)
 }
 
 // The word of four bytes at a place, low first.

@@ -1,10 +1,12 @@
 -- The page of the program `why` (document 02, asks 3 and 5): of each program of a settled batch, in number order, why it ended as it did. What the library answers
 -- stands in `causes`, what is then said in `sentences`. Assumes nothing.
-use Rattle.std.specs.Prelude.{ℕ, ◌+◌, ◌-◌, ◌*◌, ◌/◌, ◌%◌, ◌<◌, ◌≡◌, Bool, cond, ◌&&◌, List, [], ◌++◌, eqb, length}
+use Rattle.std.specs.Prelude.{ℕ, ◌+◌, ◌-◌, ◌*◌, ◌/◌, ◌%◌, ◌<◌, ◌≡◌, Bool, cond, ◌&&◌, List, [], ◌++◌, eqb, length, Option, Some, None, Result, Ok, Err}
 use Rattle.base.specs.Words.{count}
 use Rattle.text.specs.Filled.{texts}
 use Rattle.image.specs.Limits.{max_programs}
-use Rattle.image.specs.Refusals as refusal
+use Rattle.image.specs.declared.refusals.Refusal.{Refusal}
+use Rattle.image.specs.declared.refusals.Refusal.TheVariants as refusal
+use Rattle.image.specs.Refusals.{passed}
 use Rattle.image.specs.Image.{count_of, refusal_of, part_of}
 use Rattle.guard.specs.Guards.{low_of, high_of}
 use Rattle.slot.specs.declared.Group.TheVariants.{Committed, Carried}
@@ -17,8 +19,7 @@ use Rattle.area.specs.Checks.{Paired, Measured}
 use Rattle.steps.specs.Gathering.{run_at}
 use Rattle.causes.specs.declared.answers.Why.{Why}
 use Rattle.causes.specs.declared.answers.Why.TheVariants as why
-use Rattle.causes.specs.declared.answers.Before.{Before}
-use Rattle.causes.specs.declared.answers.Before.TheVariants as before
+use Rattle.causes.specs.declared.answers.Cause.{Cause}
 use Rattle.causes.specs.Why.{why_answer, before_answer}
 use Rattle.refused.specs.Refused.{refused_line}
 use Rattle.sentences.specs.Sentences.{free, turned, waw, raw, raw_with_war, again, rejected, load_fault, store_fault, guard_fault, longest}
@@ -26,28 +27,31 @@ use Rattle.sentences.specs.Sentences.{free, turned, waw, raw, raw_with_war, agai
 -- ---- by what the library answers
 
 -- a committed program, by before whom it comes
-unfoldable pub committed_text : Before → (number : ℕ) → List ℕ
-committed_text (before.Refused r) number = refused_line r
-committed_text before.Nobody number = free number
-committed_text (before.Program cause) number = turned number cause
+unfoldable pub committed_text : Result (Option Cause) Refusal → (number : ℕ) → List ℕ
+committed_text (Ok None) number = free number
+committed_text (Ok (Some cause)) number = turned number cause
+committed_text (Err r) number = refused_line r
 
 -- "a program in place p (from 0) is committed, rejected or faulted within p+1 batches": so says the page of a carried program's place in the next batch
 unfoldable pub again_text : (place : ℕ) → List ℕ
 again_text place = again place (place + 1)
 
 -- a carried program, by why it was carried
-unfoldable pub carried_text : Why → (number place : ℕ) → List ℕ
-carried_text (why.Refused r) number place = refused_line r
-carried_text (why.Waw cause) number place = waw number cause ++ again_text place
-carried_text (why.Raw cause) number place = raw number cause ++ again_text place
-carried_text (why.RawWithWar cause war) number place = raw_with_war number cause war ++ again_text place
+unfoldable pub why_text : Why → (number : ℕ) → List ℕ
+why_text (why.Waw cause) number = waw number cause
+why_text (why.Raw cause) number = raw number cause
+why_text (why.RawWithWar cause war) number = raw_with_war number cause war
+
+unfoldable pub carried_text : Result Why Refusal → (number place : ℕ) → List ℕ
+carried_text (Ok why) number place = why_text why number ++ again_text place
+carried_text (Err r) number place = refused_line r
 
 -- a faulted program of a table of T cells, by its detail, "256 × kind + instruction number"; one that no load and no store outside the table leaves is refused
 unfoldable pub faulted_text : (number detail T : ℕ) → List ℕ
 faulted_text number detail T =
     cond (eqb (detail / 256) run.load_fault) (load_fault number (detail % 256) (T - 1))
     (cond (eqb (detail / 256) run.store_fault) (store_fault number (detail % 256) (T - 1))
-    (refused_line refusal.reason))
+    (refused_line refusal.Reason))
 
 -- ---- a fault of kind 3
 
@@ -78,7 +82,7 @@ ended_text image t g a k =
     (cond (eqb (state_of (length t) k a) state.faulted) (faulted_text k (detail_of (length t) k a) (length t))
     (cond (in_group Committed (length t) a k) (committed_text (before_answer image t g a k) k)
     (cond (in_group Carried (length t) a k) (carried_text (why_answer image t g a k) k (place_of (length t) k a))
-    (refused_line refusal.state))))
+    (refused_line refusal.State))))
 
 -- program k: one that a guard stopped, or any other
 unfoldable pub program_text : (image opening t g a : List ℕ) → ℕ → List ℕ
@@ -97,7 +101,7 @@ longest_page = max_programs * longest
 
 -- What a page is told of: an image that is not refused, the table as it was when the batch was opened and as it is, its guards, and an area for both.
 pub record CanTell (image opening t g a : List ℕ) : Type 0 where
-  pub accepted : (refusal_of image).number ≡ 0
+  pub accepted : refusal_of image ≡ passed
   pub measured : Measured (length t) (count_of image) a
   pub cells_some : 0 < length t
   pub same_cells : length opening ≡ length t
@@ -105,14 +109,6 @@ pub record CanTell (image opening t g a : List ℕ) : Type 0 where
 
 -- What is needed for the store at which program k's run stopped.
 pub record CanRerun (image opening g : List ℕ) (k : ℕ) : Type 0 where
-  pub accepted : (refusal_of image).number ≡ 0
+  pub accepted : refusal_of image ≡ passed
   pub within : k < count_of image
   pub pairs : Paired opening g
-
--- a program that a guard stopped, and nothing of any other; and the other way round
-unfoldable pub guarded_text : (image opening g a : List ℕ) → ℕ → List ℕ
-guarded_text image opening g a k =
-    cond (guard_faulted (length opening) k a) (guard_text image opening g k (detail_of (length opening) k a % 256)) []
-
-unfoldable pub other_text : (image t g a : List ℕ) → ℕ → List ℕ
-other_text image t g a k = cond (guard_faulted (length t) k a) [] (ended_text image t g a k)

@@ -1,8 +1,8 @@
 -- Document 01, "Bench sheet": what the program `batch` prints, for every input; what `why` does (document 02, ask 3); what both say on standard error (document
 -- 02, ask 2); and the same of `guarded` and `guarded_why`, whose inputs have guards (document 02, ask 5). Assumes nothing.
-use Rattle.std.specs.Prelude.{ℕ, zero, suc, Bool, cond, ◌&&◌, List, [], leb, length, replicate}
-use Rattle.image.specs.declared.Refusal.{Refusal}
-use Rattle.image.specs.Refusals as refusal
+use Rattle.std.specs.Prelude.{ℕ, zero, suc, Bool, cond, ◌&&◌, List, [], leb, length, replicate, Result}
+use Rattle.image.specs.declared.refusals.Refusal.{Refusal}
+use Rattle.image.specs.declared.refusals.Refusal.TheVariants as refusal
 use Rattle.image.specs.Refusals.{check, unless}
 use Rattle.image.specs.Image.{count_of}
 use Rattle.guard.specs.Guards.{full_for}
@@ -19,8 +19,8 @@ use Rattle.refused.specs.Where.{image_where}
 use Rattle.reasons.specs.Reasons.{reasons_text, longest_page}
 use Rattle.report.specs.declared.Guards.{Guards}
 use Rattle.report.specs.declared.Guards.TheVariants.{FullRange, FromInput}
-use Rattle.report.specs.declared.Page.{Page}
-use Rattle.report.specs.declared.Page.TheVariants.{Results, Reasons}
+use Rattle.report.specs.declared.Wanted.{Wanted}
+use Rattle.report.specs.declared.Wanted.TheVariants.{Results, Reasons}
 
 -- ---- "It opens, gathers and settles in number order."
 
@@ -84,15 +84,15 @@ unfoldable pub guards_there : Guards → (input : List ℕ) → Bool
 guards_there from input = leb (image_start from (cells_named input)) (length input)
 
 -- opening, in an area of as many words as it asks for
-abbrev pub opening_of : Guards → (input : List ℕ) → Refusal
+abbrev pub opening_of : Guards → (input : List ℕ) → Result (Unit {0}) Refusal
 opening_of from input = open_refusal (image_of from input) (table_of input) (guards_of from input) (work_area (image_of from input) (table_of input))
 
 -- "Fewer bytes than that prefix needs, or T outside 1 to 256, prints "refused 5""; then 14, which is judged with the prefix; "another refusal prints its number
 -- so": that of opening
-unfoldable pub input_refusal : Guards → (input : List ℕ) → Refusal
+unfoldable pub input_refusal : Guards → (input : List ℕ) → Result (Unit {0}) Refusal
 input_refusal from input =
-    check (prefix_good input) refusal.table_size
-    (check (guards_there from input) refusal.guards
+    check (prefix_good input) refusal.TableSize
+    (check (guards_there from input) refusal.Guards
     (opening_of from input))
 
 -- table and area after its batch
@@ -112,11 +112,11 @@ page_of page from input =
     (page (image_of from input) (table_of input) (batch_of from input).table (guards_of from input) (batch_of from input).area)
 
 -- what is wanted of a batch: what came of it, or why; and how long such a page is at most
-abbrev pub page_text : Page → Told
+abbrev pub page_text : Wanted → Told
 page_text Results image opening t g a = listing image t g a
 page_text Reasons image opening t g a = reasons_text image opening t g a
 
-abbrev pub page_most : Page → ℕ
+abbrev pub page_most : Wanted → ℕ
 page_most Results = most_listing
 page_most Reasons = longest_page
 

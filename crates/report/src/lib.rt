@@ -5,18 +5,23 @@
 
 ghost use Rattle.std.specs.Prelude.{◌≡◌, ◌≤◌, ◌<◌, length};
 ghost use Rattle.text.specs.Writing.{Wrote, PageSays};
+ghost use Rattle.text.specs.Paper.{Put, Fits};
 ghost use Rattle.image.specs.Limits.{max_programs, max_cells};
-ghost use Rattle.image.specs.Image.{count_of};
 ghost use Rattle.guard.specs.Guards.{guard_words};
 ghost use Rattle.area.specs.Layout.{area_words};
-ghost use Rattle.area.specs.Checks.{Paired, Measured};
+ghost use Rattle.area.specs.Checks.{Paired};
 ghost use Rattle.prefix.specs.Prefix.{prefix_bytes};
 ghost use Rattle.input.specs.Prefix.{table_in};
-ghost use Rattle.results.specs.Listing.{listing, most_listing};
-ghost use Rattle.reasons.specs.Reasons.{reasons_text, longest_page, CanTell};
+ghost use Rattle.results.specs.Listing.{most_listing};
+ghost use Rattle.reasons.specs.Reasons.{longest_page, CanTell};
+ghost use Rattle.refused.specs.Refused.{refused_line, most_refused};
 ghost use Rattle.refused.specs.Where.{most_where};
 ghost use Rattle.report.specs.Batch.{lent, gather_first, settle_first, image_start, guards_for, page_of, page_text, page_most, batch_page, reasons_page, said};
-ghost use Rattle.report.specs.Runs.{Leaves, RunsIn, programs_in, Fits, Runs, RunsTable, RanSays};
+ghost use Rattle.report.specs.Runs.{Leaves, RunsIn, programs_in, Room, Runs, RunsTable, RanSays};
+
+use area::Batch;
+use image::Refusal;
+use text::Page;
 
 // Where the guards of a batch come from: they are the full range for every cell, or the input has them behind its cells.
 #[derive(Clone, Copy)]
@@ -25,11 +30,11 @@ pub enum Guards {
     FromInput,
 }
 
-// What comes of an input: a refusal, or how many cells and words of what was lent are the table and the area of its settled batch.
+// How many cells and words of what was lent are the table and the area of a settled batch.
 #[derive(Clone, Copy)]
-enum Ran {
-    Refused(image::Refusal),
-    Settled(usize, usize),
+struct Used {
+    cells: usize,
+    words: usize,
 }
 
 // Gathers the first n programs in number order.
@@ -37,7 +42,7 @@ fn gather_all(image: &[u8], table: &[u32], guards: &[u32], area: &mut [u32], n: 
     ensures { area.new ≡ gather_first image.now table.now guards.now area.old n }
 {
     for k in 0..n {
-        sheetbendle::gather(image, table, guards, area, k);
+        let _ = sheetbendle::gather(image, table, guards, area, k);
     }
 }
 
@@ -46,22 +51,24 @@ fn settle_all(image: &[u8], table: &mut [u32], guards: &[u32], area: &mut [u32],
     ensures { Leaves (settle_first image.now guards.now (lent table.old area.old) n) table.new area.new }
 {
     for k in 0..n {
-        sheetbendle::settle(image, table, guards, area, k);
+        let _ = sheetbendle::settle(image, table, guards, area, k);
     }
 }
 
 // Opens, gathers and settles in number order, unless opening is refused.
-fn run_in(image: &[u8], table: &mut [u32], guards: &[u32], area: &mut [u32]) -> image::Refusal
+fn run_in(
+    image: &[u8],
+    table: &mut [u32],
+    guards: &[u32],
+    area: &mut [u32],
+) -> Result<(), Refusal>
     ensures { RunsIn image.now table.old guards.now area.old result table.new area.new }
 {
-    let refused = sheetbendle::open(image, table, guards, area);
-    if refused.number != 0 {
-        return refused;
-    }
+    sheetbendle::open(image, table, guards, area)?;
     let n = image::count(image);
     gather_all(image, table, guards, area, n);
     settle_all(image, table, guards, area, n);
-    refused
+    Ok(())
 }
 
 // The same, in the first words of what is lent.
@@ -71,8 +78,8 @@ fn run_on(
     guards: &[u32],
     areas: &mut [u32],
     words: usize,
-) -> image::Refusal
-    requires { Fits image.now table.old areas.old words }
+) -> Result<(), Refusal>
+    requires { Room image.now table.old areas.old words }
     ensures { Runs image.now table.old guards.now words result table.new areas.new }
 {
     run_in(image, table, guards, &mut areas[0..words])
@@ -128,8 +135,8 @@ fn run_table(
     guards: &mut [u32],
     areas: &mut [u32],
     words: usize,
-) -> image::Refusal
-    requires { (prefix_bytes (length table.old) ≤ length input.now) × (image_start from (length table.old) ≤ length input.now) × (length table.old ≤ max_cells) × Paired table.old guards.old × Fits image.now table.old areas.old words }
+) -> Result<(), Refusal>
+    requires { (prefix_bytes (length table.old) ≤ length input.now) × (image_start from (length table.old) ≤ length input.now) × (length table.old ≤ max_cells) × Paired table.old guards.old × Room image.now table.old areas.old words }
     ensures { RunsTable from input.now image.now (table_in input.now (length table.old)) words result table.new guards.new areas.new }
 {
     input::read_cells(input, table);
@@ -144,21 +151,20 @@ fn run_input(
     tables: &mut [u32],
     guards: &mut [u32],
     areas: &mut [u32],
-) -> Ran
+) -> Result<Used, Refusal>
     requires { (max_cells ≤ length tables.old) × (guard_words max_cells ≤ length guards.old) × (area_words max_cells max_programs ≤ length areas.old) }
     ensures { RanSays from input.now result tables.new guards.new areas.new }
 {
-    let cells = input::cells_of(input);
-    if cells == 0 {
-        return Ran::Refused(image::Refusal::TABLE_SIZE);
-    }
+    let Some(cells) = input::cells_of(input) else {
+        return Err(Refusal::TableSize);
+    };
     let start = image_start(from, cells);
     if input.len() < start {
-        return Ran::Refused(image::Refusal::GUARDS);
+        return Err(Refusal::Guards);
     }
     let image = input::image_behind(input, start);
     let words = words_for(image, cells);
-    let refused = run_table(
+    run_table(
         from,
         input,
         image,
@@ -166,11 +172,8 @@ fn run_input(
         &mut guards[0..guard::ENDS * cells],
         areas,
         words,
-    );
-    if refused.number != 0 {
-        return Ran::Refused(refused);
-    }
-    Ran::Settled(cells, words)
+    )?;
+    Ok(Used { cells, words })
 }
 
 // Room for the largest table, for its guards, and for the largest area.
@@ -196,94 +199,64 @@ fn area_room() -> [u32; sheetbendle::AREA_WORDS]
 
 // What is wanted of a batch: what came of it, or why.
 #[derive(Clone, Copy)]
-enum Page {
+enum Wanted {
     Results,
     Reasons,
 }
 
-// The listing, where there is room for every listing.
-fn put_listing(out: &mut [u8], image: &[u8], table: &[u32], guards: &[u32], area: &[u32]) -> usize
-    requires { Measured (length table.now) (count_of image.now) area.now × (most_listing ≤ length out.old) }
-    ensures { Wrote out.old 0 (listing image.now table.now guards.now area.now) out.new result }
-{
-    results::put_listing(out, 0, image, table, guards, area)
-}
-
-// The reasons, where there is room for all that can be said of a batch.
-fn put_reasons(
-    out: &mut [u8],
-    image: &[u8],
-    opening: &[u32],
-    table: &[u32],
-    guards: &[u32],
-    area: &[u32],
-) -> usize
-    requires { CanTell image.now opening.now table.now guards.now area.now × (longest_page ≤ length out.old) }
-    ensures { Wrote out.old 0 (reasons_text image.now opening.now table.now guards.now area.now) out.new result }
-{
-    reasons::put_reasons(out, 0, image, opening, table, guards, area)
-}
-
 // The page that is wanted; `opening` is the table as it was when the batch was opened.
-fn put_page(
-    page: Page,
-    out: &mut [u8],
-    image: &[u8],
-    opening: &[u32],
-    table: &[u32],
-    guards: &[u32],
-    area: &[u32],
-) -> usize
-    requires { CanTell image.now opening.now table.now guards.now area.now × (page_most page ≤ length out.old) }
-    ensures { Wrote out.old 0 (page_text page image.now opening.now table.now guards.now area.now) out.new result }
+fn put_page(wanted: Wanted, page: &mut Page, opening: &[u32], batch: Batch)
+    requires { CanTell batch.image.now opening.now batch.table.now batch.guards.now batch.area.now × Fits page.old (page_text wanted batch.image.now opening.now batch.table.now batch.guards.now batch.area.now) }
+    ensures { Put page.old (page_text wanted batch.image.now opening.now batch.table.now batch.guards.now batch.area.now) page.new }
 {
-    match page {
-        Page::Results => put_listing(out, image, table, guards, area),
-        Page::Reasons => put_reasons(out, image, opening, table, guards, area),
+    match wanted {
+        Wanted::Results => results::put_listing(page, batch),
+        Wanted::Reasons => reasons::put_reasons(page, opening, batch),
     }
 }
 
 // The page of a settled batch, for which the table as it was is read again.
-fn put_settled(
-    page: Page,
-    out: &mut [u8],
-    input: &[u8],
-    image: &[u8],
-    table: &[u32],
-    guards: &[u32],
-    area: &[u32],
-) -> usize
-    requires { (prefix_bytes (length table.now) ≤ length input.now) × CanTell image.now (table_in input.now (length table.now)) table.now guards.now area.now × (page_most page ≤ length out.old) }
-    ensures { Wrote out.old 0 (page_text page image.now (table_in input.now (length table.now)) table.now guards.now area.now) out.new result }
+fn put_settled(wanted: Wanted, out: &mut [u8], input: &[u8], batch: Batch) -> usize
+    requires { (prefix_bytes (length batch.table.now) ≤ length input.now) × CanTell batch.image.now (table_in input.now (length batch.table.now)) batch.table.now batch.guards.now batch.area.now × (page_most wanted ≤ length out.old) }
+    ensures { Wrote out.old 0 (page_text wanted batch.image.now (table_in input.now (length batch.table.now)) batch.table.now batch.guards.now batch.area.now) out.new result }
 {
     let mut room = table_room();
-    let opening = &mut room[0..table.len()];
+    let opening = &mut room[0..batch.table.len()];
     input::read_cells(input, opening);
-    put_page(page, out, image, opening, table, guards, area)
+    let mut page = Page::new(out);
+    put_page(wanted, &mut page, opening, batch);
+    page.end()
+}
+
+// The line of a refusal.
+fn refused_page(refusal: Refusal, out: &mut [u8]) -> usize
+    requires { most_refused ≤ length out.old }
+    ensures { PageSays (refused_line refusal) out.old result out.new }
+{
+    let mut page = Page::new(out);
+    refused::put_refused(&mut page, refusal);
+    page.end()
 }
 
 // Runs the batch that the input holds and makes the page that is wanted of it, or the refusal's line.
-fn make_page(page: Page, from: Guards, input: &[u8], out: &mut [u8]) -> usize
-    requires { page_most page ≤ length out.old }
-    ensures { PageSays (page_of (page_text page) from input.now) out.old result out.new }
+fn make_page(wanted: Wanted, from: Guards, input: &[u8], out: &mut [u8]) -> usize
+    requires { page_most wanted ≤ length out.old }
+    ensures { PageSays (page_of (page_text wanted) from input.now) out.old result out.new }
 {
     let mut tables = table_room();
     let mut guards = guard_room();
     let mut areas = area_room();
     match run_input(from, input, &mut tables, &mut guards, &mut areas) {
-        Ran::Refused(refusal) => refused::put_refused(out, 0, refusal),
-        Ran::Settled(cells, words) => {
-            let image = input::image_behind(input, image_start(from, cells));
-            put_settled(
-                page,
-                out,
-                input,
-                image,
-                &tables[0..cells],
-                &guards[0..guard::ENDS * cells],
-                &areas[0..words],
-            )
+        Ok(used) => {
+            let batch = Batch {
+                image: input::image_behind(input, image_start(from, used.cells)),
+                table: &tables[0..used.cells],
+                guards: &guards[0..guard::ENDS * used.cells],
+                area: &areas[0..used.words],
+            };
+            put_settled(wanted, out, input, batch)
         }
+        Err(refusal) => refused_page(refusal, out),
     }
 }
 
@@ -292,7 +265,7 @@ pub fn batch_page(from: Guards, input: &[u8], out: &mut [u8]) -> usize
     requires { most_listing ≤ length out.old }
     ensures { PageSays (batch_page from input.now) out.old result out.new }
 {
-    make_page(Page::Results, from, input, out)
+    make_page(Wanted::Results, from, input, out)
 }
 
 // The page of `why` and of `guarded_why`: why each of its programs ended as it did.
@@ -300,7 +273,7 @@ pub fn reasons_page(from: Guards, input: &[u8], out: &mut [u8]) -> usize
     requires { longest_page ≤ length out.old }
     ensures { PageSays (reasons_page from input.now) out.old result out.new }
 {
-    make_page(Page::Reasons, from, input, out)
+    make_page(Wanted::Reasons, from, input, out)
 }
 
 // What all of them say of an input on standard error: the place of its image's bad instruction, or nothing.
@@ -308,10 +281,9 @@ pub fn said(from: Guards, input: &[u8], out: &mut [u8]) -> usize
     requires { most_where ≤ length out.old }
     ensures { PageSays (said from input.now) out.old result out.new }
 {
-    let cells = input::cells_of(input);
-    if cells == 0 {
+    let Some(cells) = input::cells_of(input) else {
         return 0;
-    }
+    };
     let start = image_start(from, cells);
     if input.len() < start {
         return 0;
