@@ -37,12 +37,7 @@ pub enum Verdict {
 
 // Opening sets the whole area to 0.
 #[tactic(auto, using(image::proofs::Refusing::checking, image::proofs::Refusing::refused_as_lem, image::proofs::Refusing::done_as), unfolding(crate::specs::Opening::open_area))]
-pub fn open(
-    image: &[u8],
-    table: &[u32],
-    guards: &[u32],
-    area: &mut [u32],
-) -> Result<(), Refusal>
+pub fn open(image: &[u8], table: &[u32], guards: &[u32], area: &mut [u32]) -> Result<(), Refusal>
     ensures { OpenSays image.now table.now guards.now area.old result area.new }
 {
     area::open_refusal(image::image_refusal(image), image, table, guards, area)?;
