@@ -1,12 +1,11 @@
 -- The loop's invariant: the cells passed are reserved, and the list stays as it was. Assumes nothing.
-use mathlib.Core.Path.{refl}
-use Rattle.area.proofs.Loops.{reserving_start, reserving_next}
+use native.Mathlib.Omega.{arith}
+use Rattle.std.proofs.lemmas.Grind.{common_steps}
+use Rattle.area.proofs.Loops.{reserve_more}
 use Rattle.area.proofs.reserve_cells.Goals as goal
-
-pub loop-i-init : goal.loop-i-init
-loop-i-init c = reserving_start _ _ _ _ _
 
 pub loop-i-preserved : goal.loop-i-preserved
 loop-i-preserved c =
-    let l = c.loop-i in
-    reserving_next _ _ _ _ _ l.i l.area c.requires.0 c.loop-i-test.true l.invariant _ _ refl c.lowered.ensures
+    let same = c.loop-i.invariant.1 in
+    let before = c.requires.0.before_at in
+    (grind (arith, reserve_more, same, before), λ j. grind (arith, common_steps, same, before))

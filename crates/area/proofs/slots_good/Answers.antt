@@ -1,10 +1,8 @@
--- The loop's invariant: each slot passed is good. Assumes nothing.
-use mathlib.Core.Path.{◌≡◌, sym, ◌∙◌}
+-- A slot that is not good is one of all. Assumes nothing.
+use mathlib.Core.Path.{sym, ◌∙◌}
 use native.Mathlib.Omega.{arith}
-use borrow.Author.Rules.{rules}
-use Rattle.base.proofs.Numbers.{every_none, every_more, every_false}
+use Rattle.base.proofs.Numbers.{every_false}
 use Rattle.area.specs.Checks.{slots_good}
-use Rattle.area.proofs.Checks.{measured_lies}
 use Rattle.area.proofs.slots_good.Goals as goal
 
 pub returns-then-not-slot_good : goal.returns-then-not-slot_good

@@ -1,13 +1,11 @@
--- The loop's invariant: no state passed is below the least. Assumes nothing.
-use mathlib.Core.Path.{◌≡◌, sym}
-use Prim.Native.Nat.{◌≤◌, ◌<◌}
+-- A state below the least is one of all. Assumes nothing.
+use mathlib.Core.Path.{sym}
+use Prim.Native.Nat.{◌<◌}
 use native.Mathlib.Omega.{arith}
-use borrow.Author.Rules.{rules}
-use borrow.Author.Tests.{le-leb, lt-leb}
-use Rattle.base.proofs.Numbers.{every_none, every_more, every_false}
+use borrow.Author.Tests.{lt-leb}
+use Rattle.base.proofs.Numbers.{every_false}
 use Rattle.area.specs.Layout.{state_of}
 use Rattle.area.specs.Checks.{states_from}
-use Rattle.area.proofs.Checks.{measured_lies}
 use Rattle.area.proofs.states_from.Goals as goal
 
 pub returns-then-state-least : goal.returns-then-state-least
