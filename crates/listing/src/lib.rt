@@ -1,7 +1,7 @@
 // The listed order: document 01, "Listed order".
 #![tactic(auto)]
 
-ghost use Rattle.std.specs.Prelude.{◌≡◌, ◌++◌, ◌+◌, ◌*◌, ◌%◌, ◌^◌, ◌<◌, ◌≤◌, length, take, drop, replicate, All, MatchOption};
+ghost use Rattle.std.specs.Prelude.{◌≡◌, ◌+◌, ◌*◌, ◌%◌, ◌^◌, ◌<◌, ◌≤◌, length, replicate, All, MatchOption};
 ghost use Rattle.base.specs.Words.{first};
 ghost use Rattle.image.specs.Limits.{max_programs, max_cells};
 ghost use Rattle.area.specs.Layout.{in_group, list_of, stores_of};
