@@ -7,7 +7,7 @@ use Prim.Native.Nat.{ℕ, zero, suc, zero-le, ◌+◌, ◌-◌, ◌≤◌, ◌<�
 use native.Mathlib.Omega.{arith}
 use native.Mathlib.Numerals.{add-one}
 use lib.Dec.{eqb, leb, ltb}
-use lib.ListN.{length, drop}
+use lib.ListN.{length, take, drop}
 use borrow.Author.Tests.{le-leb, lt-leb, ltb-true, ltb-false, eq-eqb, ne_eqb, eqb-true}
 use Rattle.base.proofs.Bools.{known}
 use Rattle.base.specs.Words.{words}
@@ -23,7 +23,7 @@ use Rattle.from_sheet.specs.Passes.{lines_from, counted, tally, Small, last_bad}
 
 -- the line that begins at a place and ends at another
 abbrev pub line_at : List ℕ → (at end : ℕ) → Line
-line_at sheet at end = line_of (words at (end - at) sheet)
+line_at sheet at end = line_of (take (end - at) (drop at sheet))
 
 -- ---- the lines that are still to come
 
@@ -36,7 +36,7 @@ unfolding lines_from
 lines_none sheet at h = rw (lt-leb at (length sheet) h)
 
 pub lines_next : (sheet : List ℕ) (at end : ℕ) → Ends newline sheet at end → lines_from at sheet ≡ line_at sheet at end ∷ lines_from (end + 1) sheet
-unfolding lines_from
+unfolding words lines_from
 lines_next sheet at end e = rw (le-leb at (length sheet) (omega (arith, e.from, e.within))) (go (last_or_more (known (ltb end (length sheet)))))
   where
     last_or_more : (ltb end (length sheet) ≡ true) ⊎ (ltb end (length sheet) ≡ false) → (end ≡ length sheet) ⊎ (end < length sheet)
@@ -62,6 +62,7 @@ bad_some place text parts e = rw e
 module _ (sheet : List ℕ) (at end place : ℕ) (e : Ends newline sheet at end) where
   pub bad_next : end < length sheet
       → bad_from place (split newline (drop at sheet)) ≡ cond (allowed place (line_at sheet at end)) (bad_from (place + 1) (split newline (drop (end + 1) sheet))) (place + 1)
+  unfolding words
   bad_next l =
       ap (bad_from place) (e.more l)
       ∙ bad_some place (words at (end - at) sheet) (split newline (drop (end + 1) sheet)) (split_some newline (drop (end + 1) sheet)).2

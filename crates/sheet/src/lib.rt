@@ -19,6 +19,17 @@ pub struct Instruction {
     pub c: u8,
 }
 
+impl Instruction {
+    ghost use Rattle.sheet.specs.Sheet.{bytes_of};
+
+    // As it stands in an image.
+    pub fn bytes(self) -> [u8; 4]
+        ensures { result ≡ bytes_of self }
+    {
+        [self.op, self.a, self.b, self.c]
+    }
+}
+
 // What a line says; any other line says nothing that a sheet can hold.
 #[derive(Clone, Copy)]
 pub enum Line {
