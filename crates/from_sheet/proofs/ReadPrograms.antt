@@ -1,5 +1,5 @@
 -- Laws of reading the programs of a sheet one after another. Assumes nothing.
-use mathlib.Core.Path.{◌≡◌, refl, sym, ap}
+use mathlib.Core.Path.{◌≡◌, refl, sym, ◌∙◌}
 use mathlib.Core.Bool.{true, ◌&&◌}
 use mathlib.Core.List.{List, [], ◌∷◌, ◌++◌, append_assoc, append-nil}
 use Prim.Native.Nat.{ℕ, ◌+◌, ◌-◌, ◌≤◌}
@@ -7,9 +7,11 @@ use native.Mathlib.Omega.{arith}
 use lib.Dec.{leb}
 use lib.ListN.{length, take, length-append}
 use borrow.Author.Tests.{leb-true}
+use Rattle.std.specs.Prelude.{Err}
 use Rattle.base.proofs.Bools.{and_both}
 use Rattle.image.specs.Limits.{max_programs, max_program_bytes}
-use Rattle.image.specs.Refusals.{after, first_of}
+use Rattle.image.specs.declared.refusals.BadInstruction.{BadInstruction}
+use Rattle.image.specs.Refusals.{passed, after, first_of}
 use Rattle.image.specs.Instruction.{program_fault}
 use Rattle.sheet.specs.declared.Line.{Line}
 use Rattle.sheet.specs.declared.Line.TheVariants as line
@@ -20,7 +22,7 @@ use Rattle.from_sheet.proofs.Faults.{after_none, programs_fault_lem}
 
 -- ---- a line more
 
-pub fault_next : (begun : ℕ) (bytes : List ℕ) (l : Line) (ls : List Line)
+fault_next : (begun : ℕ) (bytes : List ℕ) (l : Line) (ls : List Line)
     → still_fault begun bytes (l ∷ ls) ≡ after (found_at begun bytes l) (still_fault (begun_after begun l) (read_after bytes l) ls)
 unfolding still_fault faults_from found_at begun_after read_after after leading programs
 fault_next begun bytes (line.Rule r) ls = refl
@@ -29,6 +31,17 @@ fault_next begun bytes line.Program ls =
     rw (append-nil bytes, e)
 fault_next begun bytes (line.Instruction i) ls = rw (append_assoc bytes (bytes_of i) (leading ls))
 fault_next begun bytes line.Other ls = refl
+
+-- where it is found in the program before, and where it is still to be found
+pub fault_found : (begun : ℕ) (bytes : List ℕ) (l : Line) (ls : List Line) {bad : BadInstruction} → found_at begun bytes l ≡ Err bad
+    → Err bad ≡ still_fault begun bytes (l ∷ ls)
+unfolding after
+fault_found begun bytes l ls e = sym (fault_next begun bytes l ls ∙ rw e)
+
+pub fault_left : (begun : ℕ) (bytes : List ℕ) (l : Line) (ls : List Line) → found_at begun bytes l ≡ passed
+    → still_fault (begun_after begun l) (read_after bytes l) ls ≡ still_fault begun bytes (l ∷ ls)
+unfolding after
+fault_left begun bytes l ls e = sym (fault_next begun bytes l ls ∙ rw e)
 
 -- at the end the last program is looked at
 pub fault_end : (begun : ℕ) (bytes : List ℕ) → still_fault begun bytes [] ≡ program_fault (begun - 1) bytes

@@ -47,7 +47,7 @@ pub search_start : (all : List Line) (p : ℕ) → p < length (programs all) →
 search_start all p l = record { line_is = omega arith; program_is = rw (add-one p); some = omega arith }
 
 -- a line more
-pub search_next : {all : List Line} {p : ℕ} (l : Line) (ls : List Line) {behind : ℕ} (left : ℕ) → 0 < left → Search all p (l ∷ ls) behind left
+search_next : {all : List Line} {p : ℕ} (l : Line) (ls : List Line) {behind : ℕ} (left : ℕ) → 0 < left → Search all p (l ∷ ls) behind left
     → Search all p ls (behind + 1) (left_behind left l)
 unfolding begins left_behind lines_to leading programs
 search_next l ls zero some s = absurd (omega arith)
@@ -58,16 +58,27 @@ search_next line.Program ls (suc n) some s =
 search_next (line.Instruction i) ls (suc n) some s = record { line_is = omega (arith, s.line_is); program_is = s.program_is; some = s.some }
 search_next line.Other ls (suc n) some s = record { line_is = omega (arith, s.line_is); program_is = s.program_is; some = s.some }
 
--- while one is still to come there is a line
-pub search_there : {all : List Line} {p behind left : ℕ} → Search all p [] behind left → left ≡ 0
-unfolding programs
-search_there s = omega (arith, s.some)
+pub search_program : {all : List Line} {p : ℕ} {l : Line} {ls : List Line} {behind : ℕ} (left : ℕ) → begins l ≡ true → Search all p (l ∷ ls) behind (left + 1)
+    → Search all p ls (behind + 1) left
+unfolding left_behind
+search_program {l = l} {ls = ls} left e s =
+    let less : left + 1 - 1 ≡ left = omega arith in
+    rw (e, less) at (search_next l ls (left + 1) (omega arith) s)
 
--- when none is, the line is found
-pub search_end : {all : List Line} {p : ℕ} {ls : List Line} {behind left : ℕ} → left ≡ 0 → Search all p ls behind left
+pub search_other : {all : List Line} {p : ℕ} {l : Line} {ls : List Line} {behind : ℕ} (left : ℕ) → begins l ≡ false → Search all p (l ∷ ls) behind (left + 1)
+    → Search all p ls (behind + 1) (left + 1)
+unfolding left_behind
+search_other {l = l} {ls = ls} left e s = rw e at (search_next l ls (left + 1) (omega arith) s)
+
+-- while one is still to come there is a line; when none is, the line is found
+pub search_there : {all : List Line} {p behind : ℕ} (left : ℕ) → Search all p [] behind (left + 1) → ⊥
+unfolding programs
+search_there left s = omega (arith, s.some)
+
+pub search_end : {all : List Line} {p : ℕ} {ls : List Line} {behind : ℕ} → Search all p ls behind 0
     → (behind ≡ begins_at p all) × (leading ls ≡ get_or (programs all) p [])
 unfolding lines_to
-search_end {ls = ls} e s = let t = rw e at s in (omega (arith, t.line_is, none_to ls), t.program_is)
+search_end {ls = ls} s = (omega (arith, s.line_is, none_to ls), s.program_is)
   where
     none_to : (ls : List Line) → lines_to ls 0 ≡ 0
     none_to [] = refl

@@ -1,5 +1,5 @@
 // Which line of a sheet an instruction is, and which byte of it is wrong: document 02, ask 2.
-ghost use Rattle.std.specs.Prelude.{◌≡◌, ◌≤◌, ◌<◌, length};
+ghost use Rattle.std.specs.Prelude.{◌≡◌, ◌≤◌, ◌<◌, ◌^◌, length};
 ghost use Rattle.text.specs.Writing.{PageSays, Room};
 ghost use Rattle.image.specs.Limits.{max_program_bytes};
 ghost use Rattle.image.specs.Instruction.{instructions_of, wrong_byte};
@@ -30,14 +30,17 @@ fn begins(line: sheet::Line) -> bool
 
 // The number of the line that begins program p, which is there, from 1; what is left are the lines behind it.
 fn beginning_of(lines: &mut Lines<'_>, p: usize) -> usize
-    requires { (p < length (programs (lines_left lines.old))) × (p < 65536) }
+    requires { (p < length (programs (lines_left lines.old))) × (p < 65536) × (length (lines_left lines.old) ≤ 2 ^ 63) }
     ensures { Begins (lines_left lines.old) p result (lines_left lines.new) }
 {
-    let mut left = p + 1;
+    let mut left = p;
     let mut number: usize = 0;
-    while 0 < left && let Some(line) = lines.next() {
+    while let Some(line) = lines.next() {
         number += 1;
         if begins(line) {
+            if left == 0 {
+                return number;
+            }
             left -= 1;
         }
     }

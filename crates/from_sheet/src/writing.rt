@@ -74,6 +74,7 @@ fn rule_of(sheet: &[u8]) -> u8
 }
 
 // The image of a sheet that has so many programs, where all checks have been made.
+#[tactic(auto, using(crate::proofs::Pieces::pieces_fit, crate::proofs::Pieces::ends_short, writer::proofs::Programs::length_number))]
 pub fn write_image(out: &mut [u8], sheet: &[u8], programs: usize) -> usize
     requires { Writable sheet.now out.old programs }
     ensures { PageSays (image_of_sheet sheet.now) out.old result out.new }
