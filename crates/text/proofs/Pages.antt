@@ -1,13 +1,15 @@
 -- Laws of writing on a page. Assumes nothing.
-use mathlib.Core.Path.{◌≡◌, ◌∙◌, sym, refl, ap}
+use mathlib.Core.Path.{◌≡◌, ◌∙◌, sym, refl}
 use mathlib.Core.List.{List, [], ◌++◌, append_assoc, append-nil}
-use Prim.Native.Nat.{ℕ}
+use Prim.Native.Nat.{ℕ, ◌<◌}
 use native.Mathlib.Omega.{arith}
 use lib.ListN.{length, drop, take, take-append-drop}
 use Rattle.std.proofs.lemmas.Grind.{common_steps, elements}
+use Rattle.text.specs.Filled.{texts}
 use Rattle.text.specs.Writing.{PageSays}
 use Rattle.text.specs.declared.page.Page.{Page}
 use Rattle.text.specs.Paper.{Put, Fits}
+use Rattle.text.proofs.Fillings.{texts_fit}
 
 pub put_none : (p : Page) → Put p [] p
 put_none p = grind (arith, common_steps)
@@ -15,16 +17,39 @@ put_none p = grind (arith, common_steps)
 pub put_more : {p q r : Page} {w x : List ℕ} → Put p w q → Put q x r → Put p (w ++ x) r
 put_more h k = grind (arith, common_steps)
 
-pub page_done : {p q : Page} {w out out' : List ℕ} {r : ℕ} → p.out.now ≡ out → p.at ≡ 0 → Put p w q → out' ≡ q.out.now → r ≡ q.at → PageSays w out r out'
-page_done {p} {q} {w} {out} same front h last place =
-    let n : q.at ≡ length w = grind arith in
-    let f : take (length w) q.out.now ≡ w = grind (arith, common_steps) in
-    let d : drop (length w) q.out.now ≡ drop (length w) out = grind (arith, elements) in
-    record {
-      bytes = last ∙ sym (take-append-drop (length w) q.out.now) ∙ rw (f, d);
-      answer = grind arith;
-      fits = grind (arith, common_steps, ap length f);
-    }
+pub put_room : {p q : Page} {w x : List ℕ} → Fits p (w ++ x) → Put p w q → Fits q x
+put_room room h = grind (arith, common_steps)
+
+-- there is one outcome only
+pub put_same : {p q r : Page} {w : List ℕ} → Put p w q → Put p w r → ◌≡◌ {A = List ℕ × ℕ} (q.out.now, q.at) (r.out.now, r.at)
+put_same {p} {q} {r} {w} h k =
+    let e : q.at ≡ r.at = omega (arith, h.at, k.at) in
+    let f : take r.at q.out.now ≡ take r.at r.out.now = rw (sym e) (h.front ∙ rw e (sym k.front)) in
+    let d : drop r.at q.out.now ≡ drop r.at r.out.now = grind (arith, elements) in
+    let a : q.out.now ≡ r.out.now = sym (take-append-drop r.at q.out.now) ∙ rw (f, d, take-append-drop) in
+    rw (a, e)
+
+-- ---- a whole page
+
+pub page_done : {p q : Page} {w out out' : List ℕ} {r : ℕ} → p.out.now ≡ out → p.at ≡ 0 → Fits p w → Put p w q → out' ≡ q.out.now → r ≡ q.at
+    → PageSays w out r out'
+page_done same front room h last place = grind (arith, common_steps)
+
+pub page_bytes : {page out out' : List ℕ} {r : ℕ} → PageSays page out r out' → out' ≡ page ++ drop (length page) out
+page_bytes {page} {out} {out'} {r} s =
+    let d : drop (length page) out' ≡ drop (length page) out = grind (arith, elements) in
+    sym (take-append-drop (length page) out') ∙ rw (d, ← s.answer, s.front)
+
+pub page_same : {page out o o' : List ℕ} {r r' : ℕ} → PageSays page out r o → PageSays page out r' o' → ◌≡◌ {A = ℕ × List ℕ} (r, o) (r', o')
+page_same {r = r} {r' = r'} s t =
+    let e : r ≡ r' = s.answer ∙ sym t.answer in
+    let f = page_bytes s ∙ sym (page_bytes t) in
+    rw (e, f)
+
+-- ---- texts one behind the other: those below k are put, and there is room for text k
+
+pub text_room : (f : ℕ → List ℕ) {k n : ℕ} → k < n → {p q : Page} → Put p (texts f k) q → Fits p (texts f n) → Fits q (f k)
+text_room f {k} {n} low h room = record { fits = omega (arith, texts_fit f k n low) }
 
 -- ---- a text that is put piece by piece: what stands there, and the rest, which is still to come
 
