@@ -9,6 +9,7 @@ use lib.ListN.{length}
 use borrow.Author.Tests.{leb-true, le-leb, lt-leb, eqb-true, eq-eqb}
 use Rattle.std.specs.Prelude.{Ok, Err}
 use Rattle.text.specs.Writing.{PageSays}
+use Rattle.text.proofs.Pages.{page_bytes}
 use Rattle.image.specs.Limits.{max_programs, max_instructions, instruction_bytes, head_bytes, max_bytes}
 use Rattle.image.specs.declared.refusals.ImageRefusal.TheVariants.{Header, Offsets}
 use Rattle.image.specs.declared.refusals.Refusal.TheVariants.{TooShort}
@@ -131,7 +132,7 @@ module _ (sheet out : List ℕ) where
     unfolding image_of_refusal image_of_answer image_of_output
     done_says h w =
         let e : passed ≡ image_of_refusal sheet out = first_passes refl good (goes_on _ (le-leb (length (image_of_sheet sheet)) (length out) h) refl) in
-        record { answer = done_as Err e refl (ap Ok w.answer); output = done_as (λ r. out) e refl w.bytes }
+        record { answer = done_as Err e refl (ap Ok w.answer); output = done_as (λ r. out) e refl (page_bytes w) }
 
   -- a length that is answered is an image's
   pub image_small : (numbers_of_written (image_of_answer sheet out)).length ≤ max_bytes
