@@ -37,12 +37,7 @@ pub enum Verdict {
 
 // Opening sets the whole area to 0.
 #[tactic(auto, using(image::proofs::Refusing::checking, image::proofs::Refusing::refused_as_lem, image::proofs::Refusing::done_as), unfolding(crate::specs::Opening::open_area))]
-pub fn open(
-    image: &[u8],
-    table: &[u32],
-    guards: &[u32],
-    area: &mut [u32],
-) -> Result<(), Refusal>
+pub fn open(image: &[u8], table: &[u32], guards: &[u32], area: &mut [u32]) -> Result<(), Refusal>
     ensures { OpenSays image.now table.now guards.now area.old result area.new }
 {
     area::open_refusal(image::image_refusal(image), image, table, guards, area)?;
@@ -87,7 +82,7 @@ fn gather_refusal(
 }
 
 // The program's run, from its part of the image into its slot.
-#[tactic(auto, using(image::proofs::Laws::accepted, image::proofs::Laws::lies, machine::proofs::Laws::part_runnable, crate::proofs::Slots::runs_into))]
+#[tactic(auto, using(machine::proofs::Laws::part_runnable, crate::proofs::Slots::runs_into))]
 fn run_into(
     image: &[u8],
     table: &[u32],
@@ -260,7 +255,7 @@ fn store_committed(settled: Settled, table: &mut [u32], area: &[u32], number: us
 }
 
 // Settling, where the checks have been made.
-#[tactic(auto, using(crate::proofs::Says::cells_dropped, area::proofs::Checks::program_lies, area::proofs::Checks::program_slotted))]
+#[tactic(auto, using(crate::proofs::Says::cells_dropped), unfolding(crate::specs::Settling::settled_area))]
 pub fn settle_checked(image: &[u8], table: &mut [u32], area: &mut [u32], number: usize) -> Settled
     requires { Checked image.now table.old area.old × (number < count_of image.now) }
     ensures { Settles image.now table.old area.old number result table.new area.new }
