@@ -1,6 +1,12 @@
--- The digit is one, so nothing goes below 0. Assumes nothing.
-use Rattle.text.proofs.Decimals.{digit_is}
+-- The test decides. Assumes nothing.
+use native.Mathlib.Omega.{arith}
+use Rattle.text.specs.Decimal.{is_digit}
 use Rattle.text.proofs.with_digit.Goals as goal
 
-pub overflow_sub-next : goal.overflow_sub-next
-overflow_sub-next c = (digit_is c.args.byte c.requires.1).0
+pub returns-then-not-is_ascii_digit : goal.returns-then-not-is_ascii_digit
+unfolding is_digit
+returns-then-not-is_ascii_digit c = grind arith
+
+pub returns : goal.returns
+unfolding is_digit
+returns c = grind arith
