@@ -56,6 +56,7 @@ impl<'a> Page<'a> {
     }
 
     // A number in decimal.
+    #[tactic(auto, using(crate::proofs::Decimals::decimal_small))]
     pub fn decimal(&mut self, n: u64)
         requires { Fits self.old (decimal n) }
         ensures { Put self.old (decimal n) self.new }
@@ -68,6 +69,7 @@ impl<'a> Page<'a> {
     }
 
     // One byte of a text with numbers in it, of which so many are used; and how many are used behind it.
+    #[tactic(auto, using(crate::proofs::Fillings::shown_number, crate::proofs::Fillings::shown_itself))]
     fn shown(&mut self, byte: u8, numbers: &[u32], used: usize) -> usize
         requires { Fits self.old (shown byte (drop used numbers.now)) }
         ensures put { Put self.old (shown byte (drop used numbers.now)) self.new }

@@ -1,19 +1,16 @@
 -- The text has come to one of its bytes. Assumes nothing.
 use native.Mathlib.Omega.{arith}
 use Rattle.text.proofs.Fillings.{filled_end, filled_next}
-use Rattle.text.proofs.Pages.{partly_none, partly_room, partly_more, partly_end}
+use Rattle.text.proofs.Pages.{partly_room, partly_more, partly_end}
 use Rattle.text.proofs.page.Page.filled.Goals as goal
 
-pub loop-byte-init : goal.loop-byte-init
-loop-byte-init c = partly_none _ _
-
 pub shown-used-requires : goal.shown-used-requires
-shown-used-requires c = partly_room c.loop-byte.invariant c.requires _ _ (filled_next c.args.text.now _ c.loop-byte.byte-index (omega arith))
+shown-used-requires c = partly_room c.loop-byte.invariant _ _ (filled_next c.args.text.now _ c.loop-byte.byte-index (omega arith)) c.requires
 
 pub loop-byte-preserved : goal.loop-byte-preserved
 loop-byte-preserved c =
     let s = c.shown-used.ensures in
-    rw s.left (partly_more c.loop-byte.invariant c.requires _ _ (filled_next c.args.text.now _ c.loop-byte.byte-index (omega arith)) s.put)
+    rw s.left (partly_more c.loop-byte.invariant _ _ (filled_next c.args.text.now _ c.loop-byte.byte-index (omega arith)) s.put)
 
 pub returns : goal.returns
 returns c = partly_end c.loop-byte.invariant (filled_end c.args.text.now _ c.loop-byte.byte-index (omega arith))
