@@ -24,15 +24,10 @@ const OPERATION: u8 = 240;
 const UNKNOWN: u32 = 255;
 
 // Whether all three hold.
-pub fn all(x: bool, y: bool, z: bool) -> bool
+fn all(x: bool, y: bool, z: bool) -> bool
     ensures { result ≡ x && y && z }
 {
-    if x {
-        if y {
-            return z;
-        }
-    }
-    false
+    x && y && z
 }
 
 // Four bytes as one number.
@@ -43,6 +38,7 @@ fn packed(op: u8, a: u8, b: u8, c: u8) -> u32
 }
 
 // The bits that are 0 in a good instruction, by its operation: the table, row by row. Operations 9 to 255 are bad.
+#[tactic(auto, using(crate::proofs::Bytes::no_bits), unfolding(crate::specs::Bits::bits_of, crate::specs::Bits::zeros, crate::specs::Instruction::kinds_of, crate::specs::Instruction::known, crate::specs::Instruction::rows))]
 fn bits_of(op: u8) -> u32
     ensures { result ≡ bits_of op }
 {
@@ -84,6 +80,7 @@ fn row_of(op: u8) -> Option<Row>
 }
 
 // Whether a byte, if it names a register, names one that there is.
+#[tactic(auto, using(crate::proofs::Bytes::of_this, crate::proofs::Bytes::of_another, crate::proofs::Bytes::asks_register), unfolding(crate::specs::Bits::zeros, crate::specs::Instruction::register_good))]
 fn register_good(kind: u8, byte: u8) -> bool
     ensures { ByKind kind (λ k. register_good k byte) result }
 {

@@ -43,6 +43,7 @@ impl Image {
     pub const BYTES: usize = Image::LEAST_BYTES + Image::PROGRAMS * (2 + Image::PROGRAM_BYTES);
 
     // The header of an image, 0 where bytes are missing.
+    #[tactic(auto, unfolding(crate::specs::Image::number_at))]
     pub fn header(bytes: &[u8]) -> Image
         ensures { result ≡ header_of bytes.now }
     {
@@ -54,14 +55,11 @@ impl Image {
     }
 
     // Check 2.
+    #[tactic(auto, unfolding(crate::specs::Image::header_good))]
     fn valid(self) -> bool
         ensures { result ≡ header_good self }
     {
-        instruction::all(
-            self.count as usize <= Image::PROGRAMS,
-            self.rule <= 2,
-            self.zero == 0,
-        )
+        self.count as usize <= Image::PROGRAMS && self.rule <= 2 && self.zero == 0
     }
 }
 
@@ -69,14 +67,14 @@ impl Image {
 pub fn byte_at(bytes: &[u8], at: usize) -> u8
     ensures { result ≡ byte_at bytes.now at }
 {
-    if at < bytes.len() { bytes[at] } else { 0 }
+    bytes.get(at).copied().unwrap_or(0)
 }
 
 // The number of 16 bits that two bytes are, low byte first.
 fn number(low: u8, high: u8) -> u16
     ensures { result ≡ low + 256 * high }
 {
-    low as u16 + 256 * high as u16
+    u16::from_le_bytes([low, high])
 }
 
 // The program count.
@@ -109,6 +107,7 @@ pub fn head_bytes(n: usize) -> usize
 }
 
 // Offset p of the image, which stands in it.
+#[tactic(auto, unfolding(crate::specs::Image::number_at))]
 fn offset(bytes: &[u8], p: usize) -> usize
     requires { (head_bytes p ≤ length bytes.now) × (p ≤ 65536) }
     ensures { (result ≡ offset_of bytes.now p) × (result < 65536) }
@@ -118,23 +117,18 @@ fn offset(bytes: &[u8], p: usize) -> usize
 }
 
 // Whether program p's offsets do not fall and its length is a multiple of 4 and at most 128.
+#[tactic(auto, unfolding(crate::specs::Image::extent_good))]
 fn extent_good(bytes: &[u8], p: usize) -> bool
     requires { (head_bytes (p + 1) ≤ length bytes.now) × (p < 65536) }
     ensures { result ≡ extent_good bytes.now p }
 {
     let start = offset(bytes, p);
     let end = offset(bytes, p + 1);
-    if end < start {
-        return false;
-    }
-    instruction::all(
-        true,
-        (end - start) % Image::INSTRUCTION_BYTES == 0,
-        end - start <= Image::PROGRAM_BYTES,
-    )
+    start <= end && (end - start) % Image::INSTRUCTION_BYTES == 0 && end - start <= Image::PROGRAM_BYTES
 }
 
 // Whether that holds of every program.
+#[tactic(auto, unfolding(crate::specs::Image::extents_good))]
 fn extents_good(bytes: &[u8], n: usize) -> bool
     requires { (n ≡ count_of bytes.now) × (head_bytes n ≤ length bytes.now) × (n < 65536) }
     ensures { result ≡ extents_good bytes.now }
@@ -148,6 +142,7 @@ fn extents_good(bytes: &[u8], n: usize) -> bool
 }
 
 // Check 3.
+#[tactic(auto, unfolding(crate::specs::Image::offsets_good))]
 fn offsets_good(bytes: &[u8], n: usize) -> bool
     requires { (n ≡ count_of bytes.now) × (n < 65536) }
     ensures { result ≡ offsets_good bytes.now }
@@ -166,6 +161,7 @@ fn offsets_good(bytes: &[u8], n: usize) -> bool
 }
 
 // The part of the image that program p is.
+#[tactic(auto, unfolding(crate::specs::Image::part_of))]
 pub fn part_of(bytes: &[u8], p: usize) -> &[u8]
     requires { Lies bytes.now p × (p < 65536) }
     ensures { Part bytes.entry (offset_of bytes.now p) (part_of bytes.now p) result }
@@ -209,13 +205,11 @@ pub fn program_fault(program: &[u8], p: usize) -> Result<(), BadInstruction>
 }
 
 // Check 1.
+#[tactic(auto, unfolding(crate::specs::Image::size_good))]
 fn size_good(bytes: &[u8]) -> bool
     ensures { result ≡ size_good bytes.now }
 {
-    if bytes.len() < Image::LEAST_BYTES {
-        return false;
-    }
-    bytes.len() <= Image::BYTES
+    Image::LEAST_BYTES <= bytes.len() && bytes.len() <= Image::BYTES
 }
 
 // The refusal of an image: of the first of the checks 1 to 4 that fails.
