@@ -21,7 +21,7 @@ pub fn put_refused(page: &mut Page, refusal: Refusal)
 }
 
 // "refused 51 line 3". The line's number may have 64 bits.
-#[tactic(auto, using(text::proofs::Pages::put_more), unfolding(crate::specs::Refused::refused_at_line))]
+#[tactic(auto, unfolding(crate::specs::Refused::refused_at_line))]
 pub fn put_refused_at(page: &mut Page, refusal: RefusalNumbers, line: usize)
     requires { Fits page.old (refused_at_line refusal line) }
     ensures { Put page.old (refused_at_line refusal line) page.new }
@@ -66,7 +66,7 @@ fn put_wrong(page: &mut Page, fault: Fault, byte: u8)
 }
 
 // "program 2, instruction 5: register 9 is over 7".
-#[tactic(auto, using(text::proofs::Pages::put_more), unfolding(crate::specs::Where::where_text))]
+#[tactic(auto, unfolding(crate::specs::Where::where_text))]
 pub fn put_where(page: &mut Page, bad: BadInstruction, byte: u8)
     requires { Fits page.old (where_text bad byte) }
     ensures { Put page.old (where_text bad byte) page.new }
@@ -76,7 +76,7 @@ pub fn put_where(page: &mut Page, bad: BadInstruction, byte: u8)
 }
 
 // "line 14, program 2, instruction 5: register 9 is over 7".
-#[tactic(auto, using(text::proofs::Pages::put_more), unfolding(crate::specs::Where::where_at_line))]
+#[tactic(auto, unfolding(crate::specs::Where::where_at_line))]
 pub fn put_where_at(page: &mut Page, bad: BadInstruction, line: usize, byte: u8)
     requires { Fits page.old (where_at_line bad line byte) }
     ensures { Put page.old (where_at_line bad line byte) page.new }
