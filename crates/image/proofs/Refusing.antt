@@ -162,6 +162,9 @@ pub given_by : {E F : Type 0} (kind : E → F) {r checks : Checks E} {x : Checks
     → MatchResult r (λ done. x ≡ Ok done) (λ e. IsErrAnd x (λ f. f ≡ kind e)) → x ≡ given_as kind checks
 given_by kind p m = given_through kind {Q = λ e f. f ≡ kind e} p m (λ e f is. is)
 
+-- all of these, for a function that answers check by check
+pub ruleset checking = (fails, goes_on, first_refuses, first_passes, given_refuses, given_passing, handed_out)
+
 -- ---- the first of several, of which a test says whether each passes
 
 module _ {E : Type 0} (refusal : ℕ → Checks E) (good : ℕ → Bool) (is : (k : ℕ) → passes (refusal k) ≡ good k) where
