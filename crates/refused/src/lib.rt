@@ -71,7 +71,10 @@ pub fn put_where(page: &mut Page, bad: BadInstruction, byte: u8)
     requires { Fits page.old (where_text bad byte) }
     ensures { Put page.old (where_text bad byte) page.new }
 {
-    page.filled(b"program #, instruction #: ", &[bad.program, bad.instruction]);
+    page.filled(
+        b"program #, instruction #: ",
+        &[bad.program, bad.instruction],
+    );
     put_wrong(page, bad.fault, byte);
 }
 
