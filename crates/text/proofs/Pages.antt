@@ -1,19 +1,30 @@
 -- Laws of writing on a page. Assumes nothing.
 use mathlib.Core.Path.{◌≡◌, ◌∙◌, sym, refl, ap}
 use mathlib.Core.List.{List, [], ◌++◌, append_assoc, append-nil}
-use Prim.Native.Nat.{ℕ}
+use Prim.Native.Nat.{ℕ, ◌<◌}
 use native.Mathlib.Omega.{arith}
 use lib.ListN.{length, drop, take, take-append-drop}
 use Rattle.std.proofs.lemmas.Grind.{common_steps, elements}
+use Rattle.text.specs.Filled.{texts}
 use Rattle.text.specs.Writing.{PageSays}
 use Rattle.text.specs.declared.page.Page.{Page}
 use Rattle.text.specs.Paper.{Put, Fits}
+use Rattle.text.proofs.Fillings.{texts_fit}
 
 pub put_none : (p : Page) → Put p [] p
 put_none p = grind (arith, common_steps)
 
 pub put_more : {p q r : Page} {w x : List ℕ} → Put p w q → Put q x r → Put p (w ++ x) r
 put_more h k = grind (arith, common_steps)
+
+-- there is one outcome only
+pub put_same : {p q r : Page} {w : List ℕ} → Put p w q → Put p w r → ◌≡◌ {A = List ℕ × ℕ} (q.out.now, q.at) (r.out.now, r.at)
+put_same {p} {q} {r} {w} h k =
+    let e : q.at ≡ r.at = omega (arith, h.at, k.at) in
+    let f : take r.at q.out.now ≡ take r.at r.out.now = rw (sym e) (h.front ∙ rw e (sym k.front)) in
+    let d : drop r.at q.out.now ≡ drop r.at r.out.now = grind (arith, elements) in
+    let a : q.out.now ≡ r.out.now = sym (take-append-drop r.at q.out.now) ∙ rw (f, d, take-append-drop) in
+    rw (a, e)
 
 pub page_done : {p q : Page} {w out out' : List ℕ} {r : ℕ} → p.out.now ≡ out → p.at ≡ 0 → Put p w q → out' ≡ q.out.now → r ≡ q.at → PageSays w out r out'
 page_done {p} {q} {w} {out} same front h last place =
@@ -25,6 +36,11 @@ page_done {p} {q} {w} {out} same front h last place =
       answer = grind arith;
       fits = grind (arith, common_steps, ap length f);
     }
+
+-- ---- texts one behind the other: those below k are put, and there is room for text k
+
+pub text_room : (f : ℕ → List ℕ) {k n : ℕ} → k < n → {p q : Page} → Put p (texts f k) q → Fits p (texts f n) → Fits q (f k)
+text_room f {k} {n} low h room = record { fits = omega (arith, texts_fit f k n low) }
 
 -- ---- a text that is put piece by piece: what stands there, and the rest, which is still to come
 

@@ -18,13 +18,18 @@ use Rattle.text.specs.Decimal.{digit, is_digit, all_digits, leads, is_number, va
 
 -- ---- the first digit
 
-pub leads_short : (w : List ℕ) → length w < 2 → eqb (length w) 1 ≡ leads w
+pub leads_none : (w : List ℕ) → length w ≡ 0 → leads w ≡ false
 unfolding leads
-leads_short [] h = refl
-leads_short (b ∷ []) h = refl
-leads_short (b ∷ c ∷ bs) h = absurd (omega arith)
+leads_none [] h = refl
+leads_none (b ∷ bs) h = absurd (omega arith)
 
-pub leads_long : (w : List ℕ) → 2 ≤ length w → not (eqb (get_or w 0 0) (digit 0)) ≡ leads w
+pub leads_one : (w : List ℕ) → length w ≡ 1 → leads w ≡ true
+unfolding leads
+leads_one [] h = absurd (omega arith)
+leads_one (b ∷ []) h = refl
+leads_one (b ∷ c ∷ bs) h = absurd (omega arith)
+
+pub leads_long : (w : List ℕ) → 2 ≤ length w → leads w ≡ not (eqb (get_or w 0 0) (digit 0))
 unfolding leads
 leads_long [] h = absurd (omega arith)
 leads_long (b ∷ []) h = absurd (omega arith)

@@ -17,32 +17,30 @@ pub enum Misread {
 }
 
 // How many digits a number has in decimal: one, and one more for each time that it can be divided by 10.
+#[tactic(auto, using(crate::proofs::Decimals::length_small, crate::proofs::Decimals::length_at))]
 pub fn decimal_length(n: u32) -> usize
     ensures { result ≡ length (decimal n) }
 {
-    let mut rest = n;
-    let mut digits: usize = 1;
-    while 10 <= rest {
-        rest = rest / 10;
-        digits += 1;
-    }
-    digits
+    if n == 0 { 1 } else { n.ilog10() as usize + 1 }
 }
 
 // Whether it is one byte, or several of which the first is not the digit 0.
+#[tactic(auto, using(crate::proofs::Reading::leads_none, crate::proofs::Reading::leads_one, crate::proofs::Reading::leads_long))]
 fn leads(word: &[u8]) -> bool
     ensures { result ≡ leads word.now }
 {
-    if word.len() < 2 {
-        return word.len() == 1;
+    match word {
+        [] => false,
+        [_] => true,
+        [first, ..] => *first != b'0',
     }
-    word[0] != b'0'
 }
 
 // 2^32: more than any number of 32 bits.
 const OVER: u64 = 4294967296;
 
 // A number with a digit more behind it, as far as 2^32.
+#[tactic(auto, unfolding(crate::specs::Decimal::is_digit))]
 fn with_digit(v: u64, byte: u8) -> Result<u64, Misread>
     requires { v ≤ over }
     ensures { result ≡ cond (is_digit byte) (Ok (capped (10 * v + (byte - digit 0)))) (Err NoNumber) }

@@ -1,20 +1,13 @@
 // A page: a lent slice, written from its front on. Every call puts its bytes behind those of the calls before it.
-ghost use Rattle.std.specs.Prelude.{◌≡◌, ◌&&◌, eqb, ltb, [], ◌∷◌, drop};
+ghost use Rattle.std.specs.Prelude.{◌≡◌, [], ◌∷◌};
 ghost use Rattle.text.specs.Decimal.{decimal};
-ghost use Rattle.text.specs.Filled.{hash, shown, left, filled};
+ghost use Rattle.text.specs.Filled.{shown, left, filled};
 
 // A lent slice, and the place in it where the next byte goes.
 #[derive(Drop)]
 pub struct Page<'a> {
     out: &'a mut [u8],
     at: usize,
-}
-
-// Whether a byte stands for a number, of which so many are used: a # while there is one.
-fn shows_number(byte: u8, used: usize, count: usize) -> bool
-    ensures { result ≡ eqb byte hash && ltb used count }
-{
-    byte == b'#' && used < count
 }
 
 impl<'a> Page<'a> {
@@ -50,13 +43,13 @@ impl<'a> Page<'a> {
         requires { Fits self.old bytes.now }
         ensures { Put self.old bytes.now self.new }
     {
-        for &byte in bytes {
-            self.byte(byte);
-        }
+        let end = self.at + bytes.len();
+        self.out[self.at..end].copy_from_slice(bytes);
+        self.at = end;
     }
 
     // A number in decimal.
-    #[tactic(auto, using(crate::proofs::Decimals::decimal_small))]
+    #[tactic(auto, using(crate::proofs::Decimals::digits))]
     pub fn decimal(&mut self, n: u64)
         requires { Fits self.old (decimal n) }
         ensures { Put self.old (decimal n) self.new }
@@ -68,19 +61,23 @@ impl<'a> Page<'a> {
         self.byte(b'0' + (n % 10) as u8)
     }
 
-    // One byte of a text with numbers in it, of which so many are used; and how many are used behind it.
-    #[tactic(auto, using(crate::proofs::Fillings::shown_number, crate::proofs::Fillings::shown_itself))]
-    fn shown(&mut self, byte: u8, numbers: &[u32], used: usize) -> usize
-        requires { Fits self.old (shown byte (drop used numbers.now)) }
-        ensures put { Put self.old (shown byte (drop used numbers.now)) self.new }
-        ensures left { drop result numbers.now ≡ left byte (drop used numbers.now) }
+    // One byte of a text with numbers in it: a # is the next of them, while there is one. The numbers that are left come back.
+    #[tactic(auto, using(crate::proofs::Fillings::showing))]
+    fn shown<'b>(&mut self, byte: u8, numbers: &'b [u32]) -> &'b [u32]
+        requires { Fits self.old (shown byte numbers.now) }
+        ensures put { Put self.old (shown byte numbers.now) self.new }
+        ensures left { result.now ≡ left byte numbers.now }
     {
-        if shows_number(byte, used, numbers.len()) {
-            self.decimal(numbers[used] as u64);
-            return used + 1;
+        match numbers {
+            [next, rest @ ..] if byte == b'#' => {
+                self.decimal(*next as u64);
+                rest
+            }
+            _ => {
+                self.byte(byte);
+                numbers
+            }
         }
-        self.byte(byte);
-        used
     }
 
     // A text in which each # is the next of the numbers, in decimal.
@@ -88,9 +85,9 @@ impl<'a> Page<'a> {
         requires { Fits self.old (filled text.now numbers.now) }
         ensures { Put self.old (filled text.now numbers.now) self.new }
     {
-        let mut used = 0;
+        let mut left = numbers;
         for &byte in text {
-            used = self.shown(byte, numbers, used);
+            left = self.shown(byte, left);
         }
     }
 }

@@ -5,4 +5,4 @@ use Rattle.text.proofs.Pages.{Partly}
 use Rattle.text.proofs.page.Page.filled.Given as goal
 
 abbrev pub invariant-loop-byte : goal.invariant-loop-byte
-invariant-loop-byte l = Partly l.fn.self (filled l.text l.numbers) l.self (filled (drop l.byte-index l.text) (drop l.used l.numbers))
+invariant-loop-byte l = Partly l.fn.self (filled l.text l.numbers) l.self (filled (drop l.byte-index l.text) l.left)
