@@ -19,11 +19,11 @@ use Rattle.refused.proofs.put_where_at.Reads as put_where_at
 use Rattle.refused.proofs.image_where.Kinds as image_where_kinds
 use Rattle.refused.proofs.image_where.Reads as image_where
 
--- the place behind it, and what the page holds at the exit
-pub put_refused_unique : Unique {A = ℕ × List ℕ} 2 put_refused_kinds.ps put_refused_kinds.r (λ κs x s. (s.0.now.at, s.0.now.out.now)) Put-refused.Post
+-- the bytes on the page at the exit, and how many
+pub put_refused_unique : Unique {A = List ℕ × ℕ} 2 put_refused_kinds.ps put_refused_kinds.r (λ κs x s. (s.0.now.out.now, s.0.now.at)) Put-refused.Post
 put_refused_unique κs a x y s t p q = put_same p q
 
-pub put_refused_at_unique : Unique {A = ℕ × List ℕ} 2 put_refused_at_kinds.ps put_refused_at_kinds.r (λ κs x s. (s.0.now.at, s.0.now.out.now)) put_refused_at.Post
+pub put_refused_at_unique : Unique {A = List ℕ × ℕ} 2 put_refused_at_kinds.ps put_refused_at_kinds.r (λ κs x s. (s.0.now.out.now, s.0.now.at)) put_refused_at.Post
 put_refused_at_unique κs a x y s t p q = put_same p q
 
 pub where_room_unique : Unique 0 where_room_kinds.ps where_room_kinds.r (λ κs x s. x) where_room.Post
@@ -32,10 +32,10 @@ where_room_unique κs a x y s t p q = p.1 ∙ sym q.1
 pub where_at_room_unique : Unique 0 where_at_room_kinds.ps where_at_room_kinds.r (λ κs x s. x) where_at_room.Post
 where_at_room_unique κs a x y s t p q = p.1 ∙ sym q.1
 
-pub put_where_unique : Unique {A = ℕ × List ℕ} 2 put_where_kinds.ps put_where_kinds.r (λ κs x s. (s.0.now.at, s.0.now.out.now)) put_where.Post
+pub put_where_unique : Unique {A = List ℕ × ℕ} 2 put_where_kinds.ps put_where_kinds.r (λ κs x s. (s.0.now.out.now, s.0.now.at)) put_where.Post
 put_where_unique κs a x y s t p q = put_same p q
 
-pub put_where_at_unique : Unique {A = ℕ × List ℕ} 2 put_where_at_kinds.ps put_where_at_kinds.r (λ κs x s. (s.0.now.at, s.0.now.out.now)) put_where_at.Post
+pub put_where_at_unique : Unique {A = List ℕ × ℕ} 2 put_where_at_kinds.ps put_where_at_kinds.r (λ κs x s. (s.0.now.out.now, s.0.now.at)) put_where_at.Post
 put_where_at_unique κs a x y s t p q = put_same p q
 
 pub image_where_unique : Unique {A = ℕ × List ℕ} 2 image_where_kinds.ps image_where_kinds.r (λ κs x s. (x, s.1.0.now)) image_where.Post

@@ -63,9 +63,3 @@ module _ {p : Page} {whole : List ℕ} {q : Page} {rest : List ℕ} (h : Partly 
 
     pub partly_more : {q' : Page} → Put q x q' → Partly p whole q' rest'
     partly_more k = record { so_far = h.so_far ++ x; put = put_more h.put k; is = h.is ∙ rw e (sym (append_assoc h.so_far x rest')) }
-
--- no second result: two pages that the same write leaves hold the same
-pub put_same : {p q r : Page} {w : List ℕ} → Put p w q → Put p w r → ◌≡◌ {A = ℕ × List ℕ} (q.at, q.out.now) (r.at, r.out.now)
-put_same {p} {q} {r} h k =
-    let same : q.out.now ≡ r.out.now = grind (arith, elements) in
-    cc
