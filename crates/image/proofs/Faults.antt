@@ -1,6 +1,6 @@
 -- Laws of the first bad instruction: a program is good where none is found, and one that is found is the first. Assumes nothing.
-use mathlib.Core.Path.{◌≡◌, refl, sym}
-use mathlib.Core.Bool.{Bool, true, false}
+use mathlib.Core.Path.{◌≡◌}
+use mathlib.Core.Bool.{true, false}
 use mathlib.Core.List.{List}
 use Prim.Native.Nat.{ℕ, ◌<◌}
 use Rattle.base.specs.Words.{every}

@@ -9,7 +9,6 @@ use Rattle.std.specs.Prelude.{Result, Ok, Err}
 use Rattle.std.specs.Result.{IsErr, IsErrAnd, MatchResult}
 use Rattle.std.proofs.lemmas.Result.{err_from_is_err_and}
 use Rattle.base.specs.Words.{every}
-use Rattle.base.proofs.Bools.{and_both}
 use Rattle.base.proofs.Numbers.{below}
 use Rattle.image.specs.Refusals.{passed, check, passes, after, first_of, given_as, unless}
 
