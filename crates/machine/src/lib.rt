@@ -214,6 +214,7 @@ impl Machine {
     }
 
     // Register a gets cell number r[b]: the value that the run has stored there, or the table's, which is then a read.
+    #[tactic(auto, using(slot::proofs::Noted::fresh_value, slot::proofs::Noted::own_value, slot::proofs::Noted::own_read))]
     fn load(self, a: u8, b: u8, table: &[u32], slot: &mut [u32]) -> Turned
         requires { Ready self slot.old × (a < registers) × (b < registers) }
         ensures { Did self (loading table.now self (log_of slot.old) a (reg self b)) result slot.new }
@@ -252,6 +253,7 @@ impl Machine {
     }
 
     // One turn: the instruction op, a, b, c.
+    #[tactic(auto, unfolding(crate::specs::Asks::ask_of, crate::specs::Runs::perform))]
     fn step(
         self,
         op: u8,
@@ -346,6 +348,7 @@ fn keeps(run: Run) -> bool
 }
 
 // A run that rejects or faults keeps nothing of it.
+#[tactic(auto, using(slot::proofs::Slots::layout_waiting))]
 fn drop_log(slot: &mut [u32], run: Run)
     requires { (length slot.old ≡ slot_words) × (slot.old ≡ layout waiting 0 (log_of slot.old)) }
     ensures { slot.new ≡ layout waiting 0 (kept run (log_of slot.old)) }
@@ -356,6 +359,7 @@ fn drop_log(slot: &mut [u32], run: Run)
 }
 
 // The slot of a run that has ended: a rejected or faulted one has only state and detail.
+#[tactic(auto, using(slot::proofs::Slots::layout_again))]
 fn finish(slot: &mut [u32], run: Run)
     requires { (length slot.old ≡ slot_words) × (slot.old ≡ layout waiting 0 (log_of slot.old)) }
     ensures { slot.new ≡ layout (state_of_run run) (detail_of_run run) (kept run (log_of slot.old)) }
