@@ -370,6 +370,7 @@ fn finish(slot: &mut [u32], run: Run)
 }
 
 // The run of a program on a table, with the table's guards: its answer, and its whole slot.
+#[tactic(auto, using(crate::proofs::Ends::outcome_log, crate::proofs::Ends::outcome_words, crate::proofs::Ends::end_is))]
 pub fn run_program(program: &[u8], table: &[u32], guards: &[u32], slot: &mut [u32]) -> Run
     requires { CanRun program.now table.now guards.now slot.old }
     ensures { RunSays program.now table.now guards.now result slot.new }
@@ -382,6 +383,7 @@ pub fn run_program(program: &[u8], table: &[u32], guards: &[u32], slot: &mut [u3
 
 // The store at which a program's run stopped, where it did: the cell and the value that the instruction at its end names. It runs the program again, in a slot
 // that is lent for it.
+#[tactic(auto, using(crate::proofs::Laws::last_registers))]
 pub fn last_store(program: &[u8], table: &[u32], guards: &[u32], slot: &mut [u32]) -> Store
     requires { CanRun program.now table.now guards.now slot.old }
     ensures { LastStore program.now table.now guards.now result slot.new }
