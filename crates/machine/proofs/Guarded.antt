@@ -1,5 +1,5 @@
 -- What guards do to a run (document 02, ask 5): the full range is document 01's run, and a fault of kind 3 is what its name says. Assumes nothing.
-use Rattle.std.proofs.Common.{◌≡◌, ℕ, zero, suc, ◌^◌, ◌<◌, Bool, true, false, cond, ltb, List, length, get_or, refl, arith, ltb-true}
+use Rattle.std.proofs.Common.{◌≡◌, ℕ, zero, suc, ◌^◌, ◌<◌, Bool, true, false, cond, ltb, List, length, get_or, refl, ltb-true}
 use Rattle.image.specs.Instruction.{instructions_of}
 use Rattle.guard.specs.Guards.{admits, Full}
 use Rattle.guard.proofs.Admitted.{full_admits}

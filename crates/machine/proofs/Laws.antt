@@ -5,6 +5,7 @@ use Rattle.base.specs.Words.{has}
 use Rattle.base.proofs.Numbers.{every_at}
 use Rattle.image.specs.Limits.{max_program_bytes}
 use Rattle.image.specs.Instruction.{instructions_of, program_good}
+use Rattle.image.specs.Refusals.{passed as not_refused}
 use Rattle.image.specs.Image.{count_of, refusal_of, part_of, code_good}
 use Rattle.image.proofs.Laws.{accepted, part_short, part_whole}
 use Rattle.slot.specs.Layout.{state_word, detail_word, list_words}
@@ -210,7 +211,7 @@ module _ (may : Judge) (p t : List ℕ) (short : length p ≤ max_program_bytes)
 -- ---- which programs can be run
 
 -- a program of an image that is not refused
-pub part_runnable : (image : List ℕ) → (refusal_of image).number ≡ 0 → (k : ℕ) → k < count_of image → Runnable (part_of image k)
+pub part_runnable : (image : List ℕ) → refusal_of image ≡ not_refused → (k : ℕ) → k < count_of image → Runnable (part_of image k)
 unfolding code_good
 part_runnable image e k h =
     let g = accepted image e in

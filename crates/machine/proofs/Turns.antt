@@ -1,6 +1,6 @@
 -- What a turn gives in each case that the code tells apart. `r` is the number that the code has, and `c` the same as the definition says it.
 -- Assumes nothing.
-use Rattle.std.proofs.Common.{◌≡◌, ℕ, suc, ◌+◌, ◌-◌, ◌<◌, ◌≤◌, true, false, Some, List, length, get_or, ap, ◌∙◌, arith, le-ltb, lt-ltb}
+use Rattle.std.proofs.Common.{◌≡◌, ℕ, ◌+◌, ◌<◌, ◌≤◌, true, false, Some, List, length, get_or, ap, ◌∙◌, le-ltb, lt-ltb}
 use Rattle.slot.specs.States.{waiting}
 use Rattle.slot.specs.Layout.{first_value}
 use Rattle.slot.specs.Log.{Log, empty, place_in, found_place, layout, log_of, loaded, with_read, with_store, Holds}
