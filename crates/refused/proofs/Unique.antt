@@ -3,7 +3,7 @@ use mathlib.Core.Path.{sym, ◌∙◌}
 use mathlib.Core.List.{List}
 use Prim.Native.Nat.{ℕ}
 use Rattle.base.specs.Unique.{Unique}
-use Rattle.text.proofs.Pages.{put_same}
+use Rattle.text.proofs.Pages.{put_same, page_same}
 use Rattle.refused.proofs.put_refused.Kinds as put_refused_kinds
 use Rattle.refused.proofs.put_refused.Reads as Put-refused
 use Rattle.refused.proofs.put_refused_at.Kinds as put_refused_at_kinds
@@ -39,4 +39,4 @@ pub put_where_at_unique : Unique {A = List ℕ × ℕ} 2 put_where_at_kinds.ps p
 put_where_at_unique κs a x y s t p q = put_same p q
 
 pub image_where_unique : Unique {A = ℕ × List ℕ} 2 image_where_kinds.ps image_where_kinds.r (λ κs x s. (x, s.1.0.now)) image_where.Post
-image_where_unique κs a x y s t p q = cc
+image_where_unique κs a x y s t p q = page_same p q

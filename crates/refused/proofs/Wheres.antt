@@ -8,9 +8,7 @@ use Rattle.std.specs.Prelude.{Ok, Err}
 use Rattle.text.specs.Ascii.{ascii}
 use Rattle.text.specs.Decimal.{decimal}
 use Rattle.text.proofs.Decimals.{wide_short}
-use Rattle.text.specs.Writing.{PageSays}
 use Rattle.text.proofs.Fillings.{filled_short}
-use Rattle.text.proofs.Writing.{wrote_none, page_says}
 use Rattle.image.specs.declared.refusals.Fault.{Fault}
 use Rattle.image.specs.declared.refusals.Fault.TheVariants as fault
 use Rattle.image.specs.declared.refusals.BadInstruction.{BadInstruction}
@@ -61,9 +59,9 @@ said_none (Err Header) image other = refl
 said_none (Err Offsets) image other = refl
 said_none (Err (Instruction bad)) image other = absurd (other bad refl)
 
-pub nothing_said : (image out : List ℕ) → ((bad : BadInstruction) → refusal_of image ≡ Err (Instruction bad) → ⊥) → PageSays (image_where image) out 0 out
+pub nothing_said : (image : List ℕ) → ((bad : BadInstruction) → refusal_of image ≡ Err (Instruction bad) → ⊥) → image_where image ≡ []
 unfolding image_where
-nothing_said image out other = rw (said_none (refusal_of image) image other) (page_says (wrote_none out 0))
+nothing_said image other = said_none (refusal_of image) image other
 
 -- of a bad instruction: its program lies in the image, and it is there
 module _ (image : List ℕ) (bad : BadInstruction) (is : refusal_of image ≡ Err (Instruction bad)) where
@@ -75,6 +73,6 @@ module _ (image : List ℕ) (bad : BadInstruction) (is : refusal_of image ≡ Er
     instruction_there = rw part_is (refusal_stands image is).there.instruction_there
 
     -- its place is said, with its wrong byte
-    pub said_is : {byte : ℕ} → byte ≡ wrong_byte part bad.instruction → where_text bad byte ≡ image_where image
+    pub said_is : {byte : ℕ} → byte ≡ wrong_byte part bad.instruction → image_where image ≡ where_text bad byte
     unfolding image_where said_of
     said_is e = rw (e, part_is, is)

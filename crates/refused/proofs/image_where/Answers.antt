@@ -3,15 +3,16 @@ use mathlib.Core.Path.{ap}
 use native.Mathlib.Omega.{arith}
 use lib.ListN.{length}
 use borrow.Author.Rules.{rules}
-use Rattle.text.proofs.Pages.{page_done}
+use Rattle.std.proofs.lemmas.Grind.{common_steps}
 use Rattle.refused.proofs.Wheres.{where_short, nothing_said, program_lies, instruction_there, said_is}
 use Rattle.refused.proofs.image_where.Goals as goal
 
 pub returns-in_default : goal.returns-in_default
-returns-in_default c = nothing_said c.args.image.now _ (λ bad e. cc)
+returns-in_default c = rw (nothing_said c.args.image.now (λ bad e. cc)) (grind (arith, common_steps))
 
 pub returns-in_default-refusal : goal.returns-in_default-refusal
-returns-in_default-refusal c = nothing_said c.args.image.now _ (λ bad e. c.in_default-refusal.not-Instruction bad (cc))
+returns-in_default-refusal c =
+    rw (nothing_said c.args.image.now (λ bad e. c.in_default-refusal.not-Instruction bad (cc))) (grind (arith, common_steps))
 
 pub part_of-program-requires : goal.part_of-program-requires
 part_of-program-requires c = program_lies c.args.image.now c.in-Instruction.bad (cc)
@@ -26,5 +27,5 @@ put_where-requires c =
 
 pub returns : goal.returns
 returns c =
-    rw (← said_is c.args.image.now c.in-Instruction.bad (cc) c.part_of-program.ensures.bytes_are c.wrong_byte-byte.ensures)
-    (page_done c.new-page.ensures.same c.new-page.ensures.front c.put_where.ensures (search rules) c.end.ensures)
+    rw (said_is c.args.image.now c.in-Instruction.bad (cc) c.part_of-program.ensures.bytes_are c.wrong_byte-byte.ensures)
+    (grind (arith, common_steps))
