@@ -24,15 +24,10 @@ const OPERATION: u8 = 240;
 const UNKNOWN: u32 = 255;
 
 // Whether all three hold.
-pub fn all(x: bool, y: bool, z: bool) -> bool
+fn all(x: bool, y: bool, z: bool) -> bool
     ensures { result ≡ x && y && z }
 {
-    if x {
-        if y {
-            return z;
-        }
-    }
-    false
+    x && y && z
 }
 
 // Four bytes as one number.

@@ -54,14 +54,11 @@ impl Image {
     }
 
     // Check 2.
+    #[tactic(auto, unfolding(crate::specs::Image::header_good))]
     fn valid(self) -> bool
         ensures { result ≡ header_good self }
     {
-        instruction::all(
-            self.count as usize <= Image::PROGRAMS,
-            self.rule <= 2,
-            self.zero == 0,
-        )
+        self.count as usize <= Image::PROGRAMS && self.rule <= 2 && self.zero == 0
     }
 }
 
@@ -69,14 +66,14 @@ impl Image {
 pub fn byte_at(bytes: &[u8], at: usize) -> u8
     ensures { result ≡ byte_at bytes.now at }
 {
-    if at < bytes.len() { bytes[at] } else { 0 }
+    bytes.get(at).copied().unwrap_or(0)
 }
 
 // The number of 16 bits that two bytes are, low byte first.
 fn number(low: u8, high: u8) -> u16
     ensures { result ≡ low + 256 * high }
 {
-    low as u16 + 256 * high as u16
+    u16::from_le_bytes([low, high])
 }
 
 // The program count.
@@ -118,20 +115,14 @@ fn offset(bytes: &[u8], p: usize) -> usize
 }
 
 // Whether program p's offsets do not fall and its length is a multiple of 4 and at most 128.
+#[tactic(auto, unfolding(crate::specs::Image::extent_good))]
 fn extent_good(bytes: &[u8], p: usize) -> bool
     requires { (head_bytes (p + 1) ≤ length bytes.now) × (p < 65536) }
     ensures { result ≡ extent_good bytes.now p }
 {
     let start = offset(bytes, p);
     let end = offset(bytes, p + 1);
-    if end < start {
-        return false;
-    }
-    instruction::all(
-        true,
-        (end - start) % Image::INSTRUCTION_BYTES == 0,
-        end - start <= Image::PROGRAM_BYTES,
-    )
+    start <= end && (end - start) % Image::INSTRUCTION_BYTES == 0 && end - start <= Image::PROGRAM_BYTES
 }
 
 // Whether that holds of every program.
@@ -209,13 +200,11 @@ pub fn program_fault(program: &[u8], p: usize) -> Result<(), BadInstruction>
 }
 
 // Check 1.
+#[tactic(auto, unfolding(crate::specs::Image::size_good))]
 fn size_good(bytes: &[u8]) -> bool
     ensures { result ≡ size_good bytes.now }
 {
-    if bytes.len() < Image::LEAST_BYTES {
-        return false;
-    }
-    bytes.len() <= Image::BYTES
+    Image::LEAST_BYTES <= bytes.len() && bytes.len() <= Image::BYTES
 }
 
 // The refusal of an image: of the first of the checks 1 to 4 that fails.

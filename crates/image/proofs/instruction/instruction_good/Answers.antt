@@ -29,5 +29,5 @@ returns c =
     rw c.packed.ensures
     (bits_and_skip c.args.op c.args.a c.args.b c.args.c c.args.i c.args.m c.bits_of-bits.ensures c.if-bits-eq-UNKNOWN.false
     (omega arith) (omega arith) (omega arith) (omega arith)) in
-    c.skip_good.ensures.of_kind _ (bits_c c.args.op c.bits_of-bits.ensures)
+    c.skip_good.ensures.of_kind _ (bits_c c.args.op c.bits_of-bits.ensures c.if-bits-eq-UNKNOWN.false)
     ∙ sym (decided ∙ rw (eq-eqb _ 0 c.if-packed-bits-ne0.false))
