@@ -1,5 +1,7 @@
 -- The laws of signed numbers and guards: the code's comparison is the signed one, and the list that is made for the full range has it. Assumes nothing.
-use Rattle.std.proofs.Common.{◌≡◌, ℕ, suc, ◌+◌, ◌-◌, ◌*◌, ◌%◌, ◌^◌, ◌<◌, ◌≤◌, Bool, true, false, not, ltb, List, pos, negsuc, sym, refl, ◌∙◌, arith, ltb-false, ltb-true, le-ltb, lt-ltb, eq-eqb, ne_eqb}
+use Rattle.std.proofs.Common.{◌≡◌, ℕ, suc, ◌+◌, ◌-◌, ◌*◌, ◌%◌, ◌^◌, ◌<◌, ◌≤◌, true, false, not, ltb, List, pos, negsuc, ◌∙◌, arith, le-ltb, lt-ltb, eq-eqb, ne_eqb}
+use Rattle.std.proofs.lemmas.Int.{ints}
+use Rattle.std.proofs.lemmas.Bool.Decides.{nat_tests}
 use lib.Signed.{lt_z}
 use Rattle.base.proofs.Tables.{tabulate_at}
 use Rattle.guard.specs.Signed.{signed, lowest, highest}
@@ -22,40 +24,14 @@ module _ (w : ℕ) where
   unfolding signed
   negative h l = rw (le-ltb w half h, lt-ltb w word l)
 
--- two tests of order that hold together give the same
-same_test : (a b c d : ℕ) → (a < b → c < d) → (b ≤ a → d ≤ c) → ltb a b ≡ ltb c d
-same_test a b c d up down = go (ltb a b) refl
-  where
-    go : (t : Bool) → ltb a b ≡ t → ltb a b ≡ ltb c d
-    go true e = e ∙ sym (lt-ltb c d (up (ltb-true a b e)))
-    go false e = e ∙ sym (le-ltb c d (down (ltb-false a b e)))
-
 -- the word with 2^31 added, modulo 2^32
 abbrev pub moved : ℕ → ℕ
 moved w = (w + lowest) % word
 
 -- "the code's comparison is the signed one": the order of signed numbers is that of the moved words, for every pair of words
 pub signed_order : (x y : ℕ) → x < word → y < word → lt_z (signed x) (signed y) ≡ ltb (moved x) (moved y)
-signed_order x y k l = go (ltb x half) (ltb y half) refl refl
-  where
-    go : (a b : Bool) → ltb x half ≡ a → ltb y half ≡ b → lt_z (signed x) (signed y) ≡ ltb (moved x) (moved y)
-    go true true e f =
-        let u = ltb-true x half e in
-        let v = ltb-true y half f in
-        rw (not_negative x u, not_negative y v) (same_test x y (moved x) (moved y) (λ h. omega arith) (λ h. omega arith))
-    go true false e f =
-        let u = ltb-true x half e in
-        let v = ltb-false y half f in
-        rw (not_negative x u, negative y v l) (sym (le-ltb (moved x) (moved y) (omega arith)))
-    go false true e f =
-        let u = ltb-false x half e in
-        let v = ltb-true y half f in
-        rw (negative x u k, not_negative y v) (sym (lt-ltb (moved x) (moved y) (omega arith)))
-    go false false e f =
-        let u = ltb-false x half e in
-        let v = ltb-false y half f in
-        rw (negative x u k, negative y v l)
-        (same_test (word - suc y) (word - suc x) (moved x) (moved y) (λ h. omega arith) (λ h. omega arith))
+unfolding signed
+signed_order x y k l = grind (arith, ints, nat_tests)
 
 -- ---- the full range
 
