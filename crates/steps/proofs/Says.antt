@@ -5,10 +5,10 @@ use mathlib.Core.Bool.{Bool, true, false}
 use mathlib.Core.List.{List}
 use lib.ListN.{length}
 use borrow.Author.Tests.{lt-ltb, le-ltb}
-use Rattle.image.specs.declared.Refusal.{Refusal}
-use Rattle.image.specs.Refusals as refusal
-use Rattle.image.proofs.Refusing.{refused_as_lem, done_as}
-use Rattle.image.proofs.Places.{none_is}
+use Rattle.std.specs.Prelude.{Result, Ok, Err}
+use Rattle.image.specs.declared.refusals.Refusal.{Refusal}
+use Rattle.image.specs.Refusals.{passed}
+use Rattle.image.proofs.Refusing.{Checks, refused_as_lem, done_as}
 use Rattle.image.specs.Image.{count_of, second_rule}
 use Rattle.machine.specs.declared.Run.{Run}
 use Rattle.slot.specs.declared.ListKind.{ListKind}
@@ -18,14 +18,12 @@ use Rattle.area.specs.declared.MarkKind.TheVariants.{Write, Read}
 use Rattle.area.specs.Layout.{marks_at, reads_of, stores_of, with_state}
 use Rattle.area.specs.Marks.{reserve, waw, raw, war, depends, lowest}
 use Rattle.area.specs.Checks.{open_refusal, Checked, Slotted}
-use Rattle.area.proofs.Checks.{open_well, checked_passed, program_slotted}
+use Rattle.area.proofs.Checks.{checked_passed, program_slotted}
 use Rattle.area.proofs.LowestCells.{depends_lowest}
-use Rattle.steps.specs.declared.Gathered.TheVariants as gathering
 use Rattle.steps.specs.declared.Settled.{Settled}
-use Rattle.steps.specs.declared.Settled.TheVariants as settling
 use Rattle.steps.specs.declared.Verdict.{Verdict}
 use Rattle.steps.specs.declared.Verdict.TheVariants as judged
-use Rattle.steps.specs.Answers.{numbers_of_settled}
+use Rattle.steps.specs.Answers.{state_of_settled, detail_of_settled}
 use Rattle.steps.specs.Opening.{cleared, open_area, OpenSays}
 use Rattle.steps.specs.Gathering.{gather_refusal, run_at, reserved, gathered_by, gather_answer, gather_area, GatherSays}
 use Rattle.steps.specs.Gathering.{Gathers, RunsInto}
@@ -36,25 +34,25 @@ use Rattle.steps.proofs.Keeps.{fits, placed_checked, marked_checked}
 
 -- ---- opening
 
-module _ (image t g a : List ℕ) (r : Refusal) (e : r ≡ open_refusal image t g a) where
-  pub open_refused : (r.number ≡ 0 → ⊥) → OpenSays image t g a r a
+module _ (image t g a : List ℕ) (r : Checks Refusal) (e : r ≡ open_refusal image t g a) where
+  pub open_refused : {f : Refusal} → r ≡ Err f → OpenSays image t g a (Err f) a
   unfolding open_area
-  open_refused h = record { answer = e; area = refused_as_lem (λ r. a) _ e h }
+  open_refused h = record { answer = sym h ∙ e; area = refused_as_lem (λ r. a) _ e h }
 
-  pub open_done : r.number ≡ 0 → (a' : List ℕ) → a' ≡ cleared a → OpenSays image t g a refusal.none a'
+  pub open_done : r ≡ passed → (a' : List ℕ) → a' ≡ cleared a → OpenSays image t g a passed a'
   unfolding open_area
-  open_done h a' q = record { answer = sym (none_is (rw e (open_well image t g a)) h) ∙ e; area = done_as (λ r. a) e h q }
+  open_done h a' q = record { answer = sym h ∙ e; area = done_as (λ r. a) e h q }
 
 -- ---- gathering
 
-module _ (image t g a : List ℕ) (k : ℕ) (r : Refusal) (e : r ≡ gather_refusal image t g a k) where
-  pub gather_refused : (r.number ≡ 0 → ⊥) → GatherSays image t g a k (gathering.Refused r) a
+module _ (image t g a : List ℕ) (k : ℕ) (r : Checks Refusal) (e : r ≡ gather_refusal image t g a k) where
+  pub gather_refused : {f : Refusal} → r ≡ Err f → GatherSays image t g a k (Err f) a
   unfolding gather_answer gather_area
-  gather_refused h = record { answer = refused_as_lem gathering.Refused _ e h; area = refused_as_lem (λ r. a) _ e h }
+  gather_refused h = record { answer = refused_as_lem Err _ e h; area = refused_as_lem (λ r. a) _ e h }
 
-  pub gather_done : r.number ≡ 0 → (x : Run) (a' : List ℕ) → Gathers image t g a k x a' → GatherSays image t g a k (gathering.Ran x) a'
+  pub gather_done : r ≡ passed → (x : Run) (a' : List ℕ) → Gathers image t g a k x a' → GatherSays image t g a k (Ok x) a'
   unfolding gather_answer gather_area
-  gather_done h x a' w = record { answer = done_as gathering.Refused e h (ap gathering.Ran w.answer); area = done_as (λ r. a) e h w.area }
+  gather_done h x a' w = record { answer = done_as Err e h (ap Ok w.answer); area = done_as (λ r. a) e h w.area }
 
 -- the parts of gathering, one after another: b is the area with the run's slot, d that with the write marks, z that with the read marks
 module _ (image t g a : List ℕ) (k : ℕ) (c : Checked image t a) (h : k < count_of image) (x : Run) (b : List ℕ) (i : RunsInto image t g a k x b) where
@@ -90,17 +88,16 @@ module _ (image t g a : List ℕ) (k : ℕ) (c : Checked image t a) (h : k < cou
 
 -- ---- settling
 
-module _ (image t g a : List ℕ) (k : ℕ) (r : Refusal) (e : r ≡ settle_refusal image t g a k) where
-  pub settle_refused : (r.number ≡ 0 → ⊥) → SettleSays image t g a k (settling.Refused r) t a
+module _ (image t g a : List ℕ) (k : ℕ) (r : Checks Refusal) (e : r ≡ settle_refusal image t g a k) where
+  pub settle_refused : {f : Refusal} → r ≡ Err f → SettleSays image t g a k (Err f) t a
   unfolding settle_answer settle_table settle_area
-  settle_refused h =
-      record { answer = refused_as_lem settling.Refused _ e h; table = refused_as_lem (λ r. t) _ e h; area = refused_as_lem (λ r. a) _ e h }
+  settle_refused h = record { answer = refused_as_lem Err _ e h; table = refused_as_lem (λ r. t) _ e h; area = refused_as_lem (λ r. a) _ e h }
 
-  pub settle_done : r.number ≡ 0 → (x : Settled) (t' a' : List ℕ) → Settles image t a k x t' a' → SettleSays image t g a k x t' a'
+  pub settle_done : r ≡ passed → (x : Settled) (t' a' : List ℕ) → Settles image t a k x t' a' → SettleSays image t g a k (Ok x) t' a'
   unfolding settle_answer settle_table settle_area
   settle_done h x t' a' w =
       record {
-        answer = done_as settling.Refused e h w.answer;
+        answer = done_as Err e h (ap Ok w.answer);
         table = done_as (λ r. t) e h w.table;
         area = done_as (λ r. a) e h w.area;
       }
@@ -163,8 +160,7 @@ cells_dropped image a T k = go (second_rule image) (waw T k a) (raw T k a) (war 
     go false false false x = refl
 
 pub after_settling : (image t a : List ℕ) (k : ℕ) (v : Settled) (t' a' : List ℕ) (state detail : ℕ) → v ≡ verdict image (length t) k a
-    → t' ≡ settled_table v k a t → a' ≡ with_state (length t) k state detail a → state ≡ (numbers_of_settled v).state
-    → detail ≡ (numbers_of_settled v).detail
+    → t' ≡ settled_table v k a t → a' ≡ with_state (length t) k state detail a → state ≡ state_of_settled v → detail ≡ detail_of_settled v
     → Settles image t a k v t' a'
 unfolding settled_area
 after_settling image t a k v t' a' state detail e f g h i =
@@ -174,5 +170,5 @@ after_settling image t a k v t' a' state detail e f g h i =
       area =
           g
           ∙ (ap (λ (n : ℕ). with_state (length t) k n detail a) h
-          ∙ (ap (λ (n : ℕ). with_state (length t) k (numbers_of_settled v).state n a) i ∙ ap (λ (y : Settled). settled_area y (length t) k a) e));
+          ∙ (ap (λ (n : ℕ). with_state (length t) k (state_of_settled v) n a) i ∙ ap (λ (y : Settled). settled_area y (length t) k a) e));
     }
