@@ -14,10 +14,10 @@ use Rattle.base.proofs.Bools.{known, and_both, and_same}
 use Rattle.base.proofs.Members.{meets_swap}
 use Rattle.base.proofs.Numbers.{first_is, first_some, first_unique, first_ext}
 use Rattle.image.specs.Limits.{max_programs}
-use Rattle.image.specs.Refusals as refusal
+use Rattle.std.specs.Prelude.{Ok, Err}
+use Rattle.image.specs.declared.refusals.Refusal.TheVariants as refusal
 use Rattle.slot.specs.declared.Group.TheVariants.{Committed}
 use Rattle.area.specs.Layout.{in_group, reads_of, stores_of}
-use Rattle.listing.specs.declared.Listed.TheVariants.{Refused, Count}
 use Rattle.listing.specs.Order.{blocks, ready, without, grow, listed}
 use Rattle.listing.specs.Listing.{committed_count, order_of, order_exists, listed_answer, listed_list, Lists}
 use Rattle.base.specs.Masks.{word_bits, has_bit, mask_of}
@@ -100,14 +100,14 @@ module _ (T n : ℕ) (a : List ℕ) (blockers : List ℕ) (all : ℕ)
   all_counted = rw whole.all_are (count_ext _ _ n (mask_has (in_group Committed T a) n))
 
   module _ (r k : ℕ) (list : List ℕ) (many : r ≡ length (picks n blockers all)) (counted : k ≡ count (has_bit all) n) where
-    pub no_order_lem : (r ≡ k → ⊥) → Lists T n a list (Refused refusal.no_order) list
+    pub no_order_lem : (r ≡ k → ⊥) → Lists T n a list (Err refusal.NoOrder) list
     unfolding listed_answer listed_list order_exists
     no_order_lem h =
         let e : eqb (length (order_of T n a)) (committed_count T n a) ≡ false = ne_eqb _ _ (λ z. h (many ∙ ap length picked ∙ z ∙ sym (counted ∙ all_counted))) in
         record { answer = rw e; entries = rw e }
 
     pub whole_order : (order out : List ℕ) → r ≡ k → take r order ≡ picks n blockers all → out ≡ take r order ++ drop r list
-        → Lists T n a list (Count r) out
+        → Lists T n a list (Ok r) out
     unfolding listed_answer listed_list order_exists
     whole_order order out h t o =
         let l : r ≡ length (order_of T n a) = many ∙ ap length picked in

@@ -255,6 +255,7 @@ pub fn order_checked(
 }
 
 // Checks 1 to 10.
+#[tactic(auto, unfolding(crate::specs::Listing::list_refusal, image::specs::Refusals::after, image::specs::Refusals::check))]
 fn list_refusal(
     image: &[u8],
     table: &[u32],
@@ -272,6 +273,7 @@ fn list_refusal(
 }
 
 // The listed order of a batch whose programs are all settled: each committed program once, and how many there are.
+#[tactic(auto, using(crate::proofs::Orders::order_refused))]
 pub fn order(
     image: &[u8],
     table: &[u32],
