@@ -12,14 +12,14 @@ use borrow.Author.Tests.{eqb-true}
 use Rattle.base.specs.Words.{has, meets}
 use Rattle.base.proofs.Bools.{known, clash, not_true}
 use Rattle.base.proofs.Members.{meets_in}
+use Rattle.std.specs.Prelude.{Ok, Err}
 use Rattle.image.specs.Image.{count_of}
-use Rattle.image.proofs.Refusing.{number_of, unless_done}
+use Rattle.image.proofs.Refusing.{unless_done}
 use Rattle.slot.specs.declared.ListKind.TheVariants.{Reads}
 use Rattle.area.specs.declared.MarkKind.TheVariants.{Write}
 use Rattle.area.specs.Layout.{reads_of, stores_of}
 use Rattle.area.specs.Marks.{depends}
 use Rattle.causes.specs.declared.answers.Cause.{Cause}
-use Rattle.causes.specs.declared.answers.Before.TheVariants as before
 use Rattle.causes.specs.Why.{ask_refusal, before_of, before_answer}
 use Rattle.listing.specs.Order.{Ordered}
 use Rattle.listing.specs.Listing.{order_of}
@@ -52,10 +52,10 @@ module _ (image t g : List ℕ) (w : World) (run : RunToEnd image t g w) (k : �
   pub before_true : TrueBefore b k (before_answer image w.table g w.area k)
   unfolding before_answer before_of
   before_true =
-      rw (unless_done (ask_refusal image w.table g w.area k) before.Refused (before_of (length w.table) k w.area) (number_of (sym (asks image t g w run k number))), end_sized end)
+      rw (unless_done (ask_refusal image w.table g w.area k) Err (Ok (before_of (length w.table) k w.area)) (sym (asks image t g w run k number)), end_sized end)
       (go (depends Reads Write (length t) k w.area) refl)
     where
-      go : (d : Bool) → depends Reads Write (length t) k w.area ≡ d → TrueBefore b k (before_of (length t) k w.area)
+      go : (d : Bool) → depends Reads Write (length t) k w.area ≡ d → TrueBefore b k (Ok (before_of (length t) k w.area))
       go true e = rw e (end.causes k number Reads Write e)
       go false e = rw e (sym (end.depends_is k number Reads Write) ∙ e)
 

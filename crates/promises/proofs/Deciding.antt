@@ -16,7 +16,7 @@ use Rattle.steps.specs.declared.Reason.{Reason}
 use Rattle.steps.specs.declared.Reason.TheVariants.{Waw, Raw, RawWithWar}
 use Rattle.steps.specs.declared.Settled.{Settled}
 use Rattle.steps.specs.declared.Settled.TheVariants.{Committed, Carried}
-use Rattle.steps.specs.Answers.{reason_number, numbers_of_settled}
+use Rattle.steps.specs.Answers.{reason_number, state_of_settled, detail_of_settled}
 use Rattle.steps.specs.Settling.{by_rule1, by_rule2, decided}
 use Rattle.promises.specs.Paper.{Batch, write_set, keeps_stores, gets_settled, touches, waw, war, raw, rule1, rule2, commits, reason, state_after, detail_after}
 
@@ -105,18 +105,18 @@ module _ (b : Batch) (k : ℕ) (f : gets_settled b k ≡ true) where
       go false false false v = refl
 
   -- and so are the numbers that it leaves in the slot
-  pub decision_state : (numbers_of_settled (decision_on b k)).state ≡ state_after b k
+  pub decision_state : state_of_settled (decision_on b k) ≡ state_after b k
   unfolding decision_on state_after
   decision_state = rw f (go (commits b k))
     where
-      go : (c : Bool) → (numbers_of_settled (cond c Committed (Carried (reason b k)))).state ≡ cond c committed carried
+      go : (c : Bool) → state_of_settled (cond c Committed (Carried (reason b k))) ≡ cond c committed carried
       go true = refl
       go false = refl
 
-  pub decision_detail : (numbers_of_settled (decision_on b k)).detail ≡ detail_after b k
+  pub decision_detail : detail_of_settled (decision_on b k) ≡ detail_after b k
   unfolding decision_on detail_after
   decision_detail = rw f (go (commits b k))
     where
-      go : (c : Bool) → (numbers_of_settled (cond c Committed (Carried (reason b k)))).detail ≡ cond c 0 (reason_number (reason b k))
+      go : (c : Bool) → detail_of_settled (cond c Committed (Carried (reason b k))) ≡ cond c 0 (reason_number (reason b k))
       go true = refl
       go false = refl

@@ -11,6 +11,7 @@ use borrow.Author.Tests.{le-leb}
 use Rattle.base.specs.Words.{every}
 use Rattle.base.proofs.Bools.{known, clash, and_both, both_and, nots, no_not, not_true, not_false}
 use Rattle.base.proofs.Numbers.{zero_or, every_at, every_from, every_ext}
+use Rattle.image.specs.Refusals.{passed}
 use Rattle.image.specs.Image.{count_of, refusal_of}
 use Rattle.slot.specs.States.{waiting, gathered, has_run, is_end, is_settled, is_committed, is_carried}
 use Rattle.area.specs.Layout.{state_of}
@@ -29,7 +30,7 @@ pub world_ext : (image t g : List ℕ) (G S G' S' : ℕ → Bool) → ((k : ℕ)
 world_ext image t g G S G' S' same s =
     λ i. record { table = table_ext (batch_of image t g) t S S' s i; area = on_ext (batch_of image t g) G S G' S' (length t) same s i }
 
-module _ (image t g : List ℕ) (e : (refusal_of image).number ≡ 0) (G S : ℕ → Bool) where
+module _ (image t g : List ℕ) (e : refusal_of image ≡ passed) (G S : ℕ → Bool) where
   abbrev b : Batch
   b = batch_of image t g
 

@@ -14,8 +14,8 @@ use Rattle.base.specs.Words.{every}
 use Rattle.base.proofs.Bools.{known, clash, and_both, both_and, nots, not_false}
 use Rattle.base.proofs.Numbers.{zero_or, every_at, every_ext}
 use Rattle.image.specs.Limits.{max_cells}
-use Rattle.image.specs.Refusals as refusal
-use Rattle.image.specs.Refusals.{check, after, unless}
+use Rattle.image.specs.declared.refusals.Refusal.TheVariants as refusal
+use Rattle.image.specs.Refusals.{passed, check, after, unless}
 use Rattle.image.specs.Image.{count_of, part_of, refusal_of}
 use Rattle.image.proofs.Laws.{accepted, part_short}
 use Rattle.slot.specs.declared.ListKind.TheVariants.{Reads, Stores}
@@ -42,14 +42,14 @@ use Rattle.promises.proofs.SettleStep.{settled_more, own_list, own_values, depen
 
 -- ---- the calls, where checks 1 to 7 pass: the rest of the checks is one test
 
-module _ (image t g a : List ℕ) (k : ℕ) (called : (call_refusal image t g a).number ≡ 0) where
+module _ (image t g a : List ℕ) (k : ℕ) (called : call_refusal image t g a ≡ passed) where
   step_is : {A : Type 0} (nine : Bool) (stay go : A)
-      → unless (after (step_refusal image t g a k) (check nine refusal.state refusal.none)) (λ r. stay) go ≡ cond (ltb k (count_of image) && nine) go stay
-  unfolding step_refusal check unless
-  step_is {A} nine stay go = rw (eq-eqb (call_refusal image t g a).number 0 called) (cases (ltb k (count_of image)) nine)
+      → unless (after (step_refusal image t g a k) (check nine refusal.State passed)) (λ r. stay) go ≡ cond (ltb k (count_of image) && nine) go stay
+  unfolding step_refusal check after unless
+  step_is {A} nine stay go = rw called (cases (ltb k (count_of image)) nine)
     where
       cases : (l n : Bool)
-          → unless {A = A} (after (check l refusal.number refusal.none) (check n refusal.state refusal.none)) (λ r. stay) go ≡ cond (l && n) go stay
+          → unless {A = A} (after (check l refusal.Number passed) (check n refusal.State passed)) (λ r. stay) go ≡ cond (l && n) go stay
       cases true true = refl
       cases true false = refl
       cases false n = refl
@@ -71,19 +71,19 @@ module _ (image t g a : List ℕ) (k : ℕ) (called : (call_refusal image t g a)
 -- ---- a batch that opens
 
 -- every run's log fits its slot
-pub runs_fit : (image t g : List ℕ) → (refusal_of image).number ≡ 0 → Fitting (batch_of image t g) (length t)
+pub runs_fit : (image t g : List ℕ) → refusal_of image ≡ passed → Fitting (batch_of image t g) (length t)
 unfolding Fitting
 runs_fit image t g e k l =
     run_kept (admits g) (part_of image k) t (part_short image (accepted image e).offsets k l)
 
 -- what the checks 1 to 5 and 14 have shown
 pub record Opens (image t g : List ℕ) : Type 0 where
-  pub accepted : (refusal_of image).number ≡ 0
+  pub accepted : refusal_of image ≡ passed
   pub cells_some : 0 < length t
   pub cells_few : length t ≤ max_cells
   pub pairs : Paired t g
 
-pub opens : (image t g found : List ℕ) → (open_refusal image t g found).number ≡ 0 → Opens image t g
+pub opens : (image t g found : List ℕ) → open_refusal image t g found ≡ passed → Opens image t g
 opens image t g found e =
     let r = open_shows image t g found e in
     record { accepted = r.accepted; cells_some = r.cells_some; cells_few = r.cells_few; pairs = r.pairs }
@@ -136,7 +136,7 @@ module _ (image t g : List ℕ) (o : Opens image t g) where
     pub paired_on : Paired table g
     paired_on = rw (table_length b t S) o.pairs
 
-    pub call_on : (call_refusal image table g area).number ≡ 0
+    pub call_on : call_refusal image table g area ≡ passed
     call_on = checked_is image _ _ _ checked_on paired_on
 
     -- ---- check 9 on the way
