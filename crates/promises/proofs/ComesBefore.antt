@@ -9,10 +9,10 @@ use native.Mathlib.Omega.{arith}
 use lib.Dec.{eqb}
 use lib.ListN.{length}
 use borrow.Author.Tests.{eqb-true}
+use Rattle.std.specs.Prelude.{Ok, Err}
 use Rattle.base.specs.Words.{has, meets}
 use Rattle.base.proofs.Bools.{known, clash, not_true}
 use Rattle.base.proofs.Members.{meets_in}
-use Rattle.std.specs.Prelude.{Ok, Err}
 use Rattle.image.specs.Image.{count_of}
 use Rattle.image.proofs.Refusing.{unless_done}
 use Rattle.slot.specs.declared.ListKind.TheVariants.{Reads}

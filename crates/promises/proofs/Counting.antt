@@ -1,10 +1,11 @@
 -- The counts that the calls return are the states' own, for any image, table and area. Assumes nothing.
 use Prim.Native.Nat.{ℕ, ◌+◌}
 use mathlib.Core.Path.{◌≡◌, refl, ◌∙◌, ap}
+use mathlib.Core.Bool.{true}
 use mathlib.Core.List.{List, ◌++◌}
 use lib.ListN.{length, drop, length-append}
-use Rattle.std.specs.Prelude.{Ok, Err}
 use borrow.Author.Tests.{eqb-true}
+use Rattle.std.specs.Prelude.{Ok, Err}
 use Rattle.base.specs.Words.{count}
 use Rattle.base.proofs.Counts.{count_all}
 use Rattle.image.specs.Limits.{head_bytes}

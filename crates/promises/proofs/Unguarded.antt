@@ -5,9 +5,9 @@ use mathlib.Core.Path.{◌≡◌, ap, ◌∙◌}
 use mathlib.Core.List.{List}
 use lib.ListN.{length, get_or}
 use native.Mathlib.Omega.{arith}
+use Rattle.std.specs.Prelude.{Ok, Err}
 use Rattle.base.proofs.Tables.{tabulate_length}
 use borrow.Author.Tests.{eq-eqb}
-use Rattle.std.specs.Prelude.{Ok, Err}
 use Rattle.image.specs.Refusals.{check, unless}
 use Rattle.image.specs.Image.{count_of, second_rule, part_of}
 use Rattle.image.proofs.Laws.{part_bytes}

@@ -8,8 +8,8 @@ use mathlib.Core.List.{List}
 use native.Mathlib.Omega.{arith}
 use lib.ListN.{length}
 use borrow.Author.Tests.{eq-eqb}
-use Rattle.base.proofs.Bools.{known, nots, and_both}
 use Rattle.std.specs.Prelude.{Ok, Err}
+use Rattle.base.proofs.Bools.{known, nots, and_both}
 use Rattle.image.specs.declared.refusals.Refusal.TheVariants as refusal
 use Rattle.image.specs.Refusals.{passed}
 use Rattle.image.specs.Image.{count_of}
