@@ -2,7 +2,7 @@
 -- number where each byte's are, and a skip that stays in the program is below 32, so that one number and one skip decide. Assumes nothing.
 use Prim.Native.Nat.{ℕ, ◌+◌, ◌-◌, ◌*◌, ◌/◌, ◌%◌, ◌^◌, ◌≤◌, ◌<◌, zero, suc}
 use mathlib.Core.Path.{◌≡◌, refl, sym, ap, ap₂, ◌∙◌}
-use mathlib.Core.Bool.{Bool, true, false, not, cond, ◌&&◌, and-true}
+use mathlib.Core.Bool.{Bool, true, false, cond, ◌&&◌, and-true}
 use native.Mathlib.Nat.{zero-mul, zero-mod, mod-eq_of_lt, div-eq_of_lt}
 use native.Mathlib.Omega.{arith}
 use Rattle.std.specs.Prelude.{Option, Some, None, Ok, Err}
@@ -74,6 +74,8 @@ lands i m byte h =
     (λ e. let l = ltb-true byte (m - i) e in le-leb (i + 1 + byte) m (omega arith))
     (λ e. let l = leb-true (i + 1 + byte) m e in lt-ltb byte (m - i) (omega arith))
 
+pub ruleset by_kind = (of_this, of_another, asks_register, asks_unused, asks_skip, lands)
+
 -- ---- the rows
 
 -- an operation that is not known has none
@@ -126,6 +128,13 @@ module _ (op : ℕ) {row : Row} (is : row ≡ kinds_row (kinds_of op)) where
   pub first_tested : {a b : ℕ} (c : ℕ) {x y : Bool} {r : ℕ} (test : Kind → ℕ → Bool) → ByKind row.a (λ k. test k a) x → ByKind row.b (λ k. test k b) y
       → r ≡ cond x (cond y c b) a → r ≡ first_bad test (kinds_of op) a b c
   first_tested c test p q e = e ∙ rw (p.of_kind _ (ap (λ (r : Row). r.a) is), q.of_kind _ (ap (λ (r : Row). r.b) is))
+
+pub ruleset by_row = (row_or, first_tested)
+
+-- one name that opens the table and the bits that the code has of it
+unfoldable pub table : Unit {0}
+unfolding rows known kinds_of zeros bits_of
+table = tt
 
 -- "Operations 9 to 255 are bad": they have no row
 pub no_bits : (op : ℕ) → 9 ≤ op → 255 ≡ bits_of op
@@ -282,7 +291,7 @@ pub unknown_bad : (op a b c i m : ℕ) → known op ≡ false → passes (fault_
 unknown_bad op a b c i m e = good_each op a b c i m ∙ rw e
 
 -- one number of bits and one skip decide
-pub bits_and_skip : (op a b c i m : ℕ) {bits : ℕ} → bits ≡ bits_of op → (bits ≡ 255 → ⊥) → a < 256 → b < 256 → c < 256 → m ≤ max_instructions
+bits_and_skip : (op a b c i m : ℕ) {bits : ℕ} → bits ≡ bits_of op → (bits ≡ 255 → ⊥) → a < 256 → b < 256 → c < 256 → m ≤ max_instructions
     → passes (fault_of op a b c i m) ≡ eqb (bit_and (packed op a b c) bits) 0 && skip_good i m (kinds_of op).c c
 unfolding known rows
 bits_and_skip op a b c i m is other ha hb hc l =
@@ -305,8 +314,20 @@ bits_and_skip op a b c i m is other ha hb hc l =
     (sym (each_both bits (skip_good i m) k a b c) ∙ ap (λ (t : Bool). each bits k a b c && t) (skip_last i m a b c op))
 
 -- the kind of c
-pub bits_c : (op : ℕ) {bits : ℕ} → bits ≡ bits_of op → (bits ≡ 255 → ⊥) → bits / 16777216 % 256 ≡ zeros (kinds_of op).c
+bits_c : (op : ℕ) {bits : ℕ} → bits ≡ bits_of op → (bits ≡ 255 → ⊥) → bits / 16777216 % 256 ≡ zeros (kinds_of op).c
 bits_c op is other =
     let k = kinds_of op in
     ap (λ (n : ℕ). n / 16777216 % 256) (bits_known op is (told_known op is other))
     ∙ byte_3 240 (zeros k.a) (zeros k.b) (zeros k.c) (omega arith) (zeros_byte k.a) (zeros_byte k.b) (zeros_byte k.c)
+
+-- as the code has them
+pub bits_bad : (op a b c i m : ℕ) {bits four : ℕ} → bits ≡ bits_of op → (bits ≡ 255 → ⊥) → a < 256 → b < 256 → c < 256 → m ≤ max_instructions
+    → four ≡ packed op a b c → (bit_and four bits ≡ 0 → ⊥) → false ≡ passes (fault_of op a b c i m)
+bits_bad op a b c i m is other ha hb hc l e h = sym (bits_and_skip op a b c i m is other ha hb hc l ∙ rw (sym e, ne_eqb _ 0 h))
+
+pub bits_decide : (op a b c i m : ℕ) {bits four : ℕ} {r : Bool} → bits ≡ bits_of op → (bits ≡ 255 → ⊥) → a < 256 → b < 256 → c < 256 → m ≤ max_instructions
+    → four ≡ packed op a b c → bit_and four bits ≡ 0 → ByKind (bits / 16777216 % 256) (λ k. skip_good i m k c) r → r ≡ passes (fault_of op a b c i m)
+bits_decide op a b c i m is other ha hb hc l e z k =
+    k.of_kind _ (bits_c op is other) ∙ sym (bits_and_skip op a b c i m is other ha hb hc l ∙ rw (sym e, eq-eqb _ 0 z))
+
+pub ruleset by_bits = (told_unknown, unknown_bad, bits_bad)

@@ -9,7 +9,6 @@ use Rattle.std.specs.Prelude.{Result, Ok, Err}
 use Rattle.std.specs.Result.{IsErr, IsErrAnd, MatchResult}
 use Rattle.std.proofs.lemmas.Result.{err_from_is_err_and}
 use Rattle.base.specs.Words.{every}
-use Rattle.base.proofs.Bools.{and_both}
 use Rattle.base.proofs.Numbers.{below}
 use Rattle.image.specs.Refusals.{passed, check, passes, after, first_of, given_as, unless}
 
@@ -161,6 +160,9 @@ given_through {E} {F} kind {x = x} {Q = Q} p m gives = rw p at (go _ m)
 pub given_by : {E F : Type 0} (kind : E → F) {r checks : Checks E} {x : Checks F} → r ≡ checks
     → MatchResult r (λ done. x ≡ Ok done) (λ e. IsErrAnd x (λ f. f ≡ kind e)) → x ≡ given_as kind checks
 given_by kind p m = given_through kind {Q = λ e f. f ≡ kind e} p m (λ e f is. is)
+
+-- all of these, for a function that answers check by check
+pub ruleset checking = (fails, goes_on, first_refuses, first_passes, given_refuses, given_passing, handed_out)
 
 -- ---- the first of several, of which a test says whether each passes
 
