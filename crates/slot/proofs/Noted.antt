@@ -170,12 +170,14 @@ fresh_value l c v e = rw e
 
 module _ (s : List ℕ) (h : Holds s) where
   -- the value of a cell that the run has stored stands in the slot, and nothing is read
-  pub own_value : (c v k : ℕ) → place_in c (log_of s).cells ≡ suc k → loaded (log_of s) c v ≡ get_or s (first_value + k) 0
-  unfolding loaded log_of
-  own_value c v k e =
-      let stands : k < get_or s store_count 0 = omega (arith, (found c (log_of s).cells k e).0, cells_count s h) in
-      rw (e, words_at first_value (get_or s store_count 0) s k stands)
+  module _ (c k : ℕ) (some : Some k ≡ found_place (place_in c (log_of s).cells)) where
+    pub own_value : (v : ℕ) → loaded (log_of s) c v ≡ get_or s (first_value + k) 0
+    unfolding loaded log_of
+    own_value v =
+        let e = found_place_some _ k some in
+        let stands : k < get_or s store_count 0 = omega (arith, (found c (log_of s).cells k e).0, cells_count s h) in
+        rw (e, words_at first_value (get_or s store_count 0) s k stands)
 
-  pub own_read : (c k : ℕ) → place_in c (log_of s).cells ≡ suc k → with_read (log_of s) c ≡ log_of s
-  unfolding with_read
-  own_read c k e = rw e
+    pub own_read : with_read (log_of s) c ≡ log_of s
+    unfolding with_read
+    own_read = rw (found_place_some _ k some)
