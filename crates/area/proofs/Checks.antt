@@ -36,6 +36,10 @@ use Rattle.area.proofs.Views.{each_mark, slot_word, state_in_slot, count_in_slot
 pub few : (image : List ℕ) → refusal_of image ≡ passed → count_of image ≤ max_programs
 few image e = few_programs_lem image (accepted image e).header
 
+pub few_cells : (t : List ℕ) → table_good t ≡ true → (min_cells ≤ length t) × (length t ≤ max_cells)
+unfolding table_good
+few_cells t e = let c = and_both (leb min_cells (length t)) (leb (length t) max_cells) e in (leb-true _ _ c.0, leb-true _ _ c.1)
+
 -- what 5, 14 and 6 show of table, guards and area, after 1 to 4
 pub record Room (image t g a : List ℕ) : Type 0 where
   pub accepted : refusal_of image ≡ passed
@@ -46,17 +50,17 @@ pub record Room (image t g a : List ℕ) : Type 0 where
 
 module _ (image t g a : List ℕ) where
   pub open_shows : open_refusal image t g a ≡ passed → Room image t g a
-  unfolding open_refusal room_refusal table_good pairs_for size_is
+  unfolding open_refusal room_refusal pairs_for size_is
   open_shows e =
       let w = none_after (image_checks image) _ e in
       let s = none_fails (table_good t) refusal.TableSize _ w.1 in
       let p = none_fails (pairs_for (length t) g) refusal.Guards _ s.1 in
       let z = none_fails (size_is (length t) (count_of image) a) refusal.AreaSize _ p.1 in
-      let c = and_both (leb min_cells (length t)) (leb (length t) max_cells) s.0 in
+      let c = few_cells t s.0 in
       record {
         accepted = passed_given refusal.Image (refusal_of image) w.0;
-        cells_some = leb-true _ _ c.0;
-        cells_few = leb-true _ _ c.1;
+        cells_some = c.0;
+        cells_few = c.1;
         pairs = eqb-true _ _ p.0;
         sized = eqb-true _ _ z.0;
       }

@@ -17,12 +17,10 @@ use Rattle.base.proofs.Numbers as numbers
 use Rattle.base.proofs.Parts.{words_length, words_at, words_has}
 use Rattle.slot.specs.declared.ListKind.{ListKind}
 use Rattle.area.specs.declared.MarkKind.{MarkKind}
-use Rattle.area.specs.declared.Span.{Span}
-use Rattle.area.specs.Layout.{marks_at, count_at, list_at, span_of, list_of}
+use Rattle.area.specs.Layout.{marks_at, count_at, list_at, list_of}
 use Rattle.area.specs.Marks.{earlier, depends, shows, lowest_of, lower_cell, lowest, below}
-use Rattle.area.specs.Checks.{Slotted, Searched}
+use Rattle.area.specs.Checks.{Slotted}
 use Rattle.area.proofs.Marks.{earlier_is, is_earlier, hit_in, hit_out}
-use Rattle.area.proofs.Places.{by_span, names_list}
 
 -- ---- the cells that have been passed
 
@@ -49,25 +47,23 @@ module _ (at i : ℕ) (a : List ℕ) (lies : at + i < length a) where
 
 module _ (T marks at k : ℕ) (a : List ℕ) where
   -- nothing has been looked at
-  pub lowest_start : T ≡ lowest_of T marks (words at 0 a) k a
+  pub lowest_none : lowest_of T marks (words at 0 a) k a ≡ T
   unfolding lowest_of shows words has
-  lowest_start = is_least _ T T (record { within = omega arith; passes = λ l. absurd (omega arith); low = λ i l e. clash e refl })
+  lowest_none = sym (is_least _ T T (record { within = omega arith; passes = λ l. absurd (omega arith); low = λ i l e. clash e refl }))
 
-  module _ (count : ℕ) (s : Searched T marks at count a) (i : ℕ) (l : i < count) where
+  module _ (i : ℕ) (lies : at + i < length a) (inside : get_or a (at + i) 0 < T) where
     abbrev cell : ℕ
     cell = get_or a (at + i) 0
+
+    abbrev found : ℕ
+    found = lowest_of T marks (words at i a) k a
 
     abbrev named_earlier : ℕ → Bool
     named_earlier c = earlier (get_or a (marks + c) 0) k
 
-    lies : at + i < length a
-    lies = omega (arith, s.names.lies)
-
-    pub lowest_next : (found next : ℕ) → found ≡ lowest_of T marks (words at i a) k a → next ≡ lower_cell marks k a found cell
-        → next ≡ lowest_of T marks (words at (i + 1) a) k a
+    pub lowest_more : lowest_of T marks (words at (i + 1) a) k a ≡ lower_cell marks k a (lowest_of T marks (words at i a) k a) (get_or a (at + i) 0)
     unfolding lowest_of shows lower_cell
-    lowest_next found next e f =
-        f ∙ is_least _ T _ (go (ltb cell found) (named_earlier cell) refl refl (subst (λ (v : ℕ). Smallest (λ c. has c (words at i a) && named_earlier c) T v) (sym e) (least_smallest _ T)))
+    lowest_more = sym (is_least _ T _ (go (ltb cell found) (named_earlier cell) refl refl (least_smallest _ T)))
       where
         -- the newest cell is not lower, or does not count
         stays : (named_earlier cell ≡ true → found ≤ cell) → Smallest (λ c. has c (words at i a) && named_earlier c) T found
@@ -87,7 +83,7 @@ module _ (T marks at k : ℕ) (a : List ℕ) where
             → Smallest (λ c. has c (words at (i + 1) a) && named_earlier c) T (cond (b && q) cell found)
         go true true x y p =
             record {
-              within = let h = s.in_table i l in omega arith;
+              within = omega arith;
               passes = λ _. both_and (newest at i a lies) y;
               low = λ c h t. let w = and_both (has c (words at (i + 1) a)) _ t in under c h w.1 (either at i a lies c w.0);
             }
@@ -152,17 +148,3 @@ below_none {T} {v} e = go (known (ltb v T))
     go : (ltb v T ≡ true) ⊎ (ltb v T ≡ false) → T ≤ v
     go (inl t) = let f : Some v ≡ None = rw t at e in absurd (cc)
     go (inr t) = ltb-false v T t
-
--- ---- as the code finds it: p is where the list lies, `marks` where its marks begin
-
-module _ (l : ListKind) (m : MarkKind) (T k : ℕ) (a : List ℕ) (p : Span) (e : p ≡ span_of l T k a) (marks : ℕ) (f : marks ≡ marks_at m T) where
-  pub search_list : Slotted T k a → Searched T marks p.at p.count a
-  search_list s =
-      record {
-        names = names_list T k a l p e s m marks f;
-        in_table = subst (λ (x : Span). (i : ℕ) → i < x.count → get_or a (x.at + i) 0 < T) (sym e) (s.inside l);
-      }
-
-  pub search_finds : (v : ℕ) → v ≡ lowest_of T marks (words p.at p.count a) k a → v ≡ lowest l m T k a
-  unfolding lowest
-  search_finds v g = by_span T k a l p e (λ x cs. lowest_of T x cs k a) marks (marks_at m T) f v g
