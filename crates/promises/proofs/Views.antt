@@ -137,7 +137,7 @@ module _ (b : Batch) (G S : ℕ → Bool) (T : ℕ) (fits : Fitting b T) where
 
     pub settled_on : gets_settled b k ≡ true → settled_in T (area_on b G S T) k ≡ G k && S k
     unfolding settled_in
-    settled_on f = rw state_on (by_settled b k f (G k) (S k))
+    settled_on f = rw state_on (by_settled b k (G k) (S k) f)
 
 -- ---- two areas on the way are equal where the same programs are gathered and, of those that are settled at all, the same have been
 
