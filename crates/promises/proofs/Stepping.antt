@@ -9,9 +9,9 @@ use native.Mathlib.Decide.{ℕ_discrete}
 use native.Mathlib.Omega.{arith}
 use lib.Dec.{eqb, ltb, leb}
 use lib.ListN.{length}
-use borrow.Author.Tests.{ltb-true, ltb-false, lt-ltb, le-leb, eq-eqb, ne_eqb}
+use borrow.Author.Tests.{eqb-true, ltb-true}
 use Rattle.base.specs.Words.{every}
-use Rattle.base.proofs.Bools.{known, clash, and_both, both_and, nots, not_false}
+use Rattle.base.proofs.Bools.{known, and_left}
 use Rattle.base.proofs.Numbers.{zero_or, every_at, every_ext}
 use Rattle.image.specs.Limits.{max_cells}
 use Rattle.image.specs.declared.refusals.Refusal.TheVariants as refusal
@@ -43,30 +43,19 @@ use Rattle.promises.proofs.SettleStep.{settled_more, own_list, own_values, depen
 -- ---- the calls, where checks 1 to 7 pass: the rest of the checks is one test
 
 module _ (image t g a : List ℕ) (k : ℕ) (called : call_refusal image t g a ≡ passed) where
-  step_is : {A : Type 0} (nine : Bool) (stay go : A)
-      → unless (after (step_refusal image t g a k) (check nine refusal.State passed)) (λ r. stay) go ≡ cond (ltb k (count_of image) && nine) go stay
-  unfolding step_refusal check after unless
-  step_is {A} nine stay go = rw called (cases (ltb k (count_of image)) nine)
-    where
-      cases : (l n : Bool)
-          → unless {A = A} (after (check l refusal.Number passed) (check n refusal.State passed)) (λ r. stay) go ≡ cond (l && n) go stay
-      cases true true = refl
-      cases true false = refl
-      cases false n = refl
-
   pub gather_is : gather_area image t g a k ≡ cond (ltb k (count_of image) && waits (length t) k a) (gathered_area image t g k a) a
-  unfolding gather_area gather_refusal
-  gather_is = step_is (waits (length t) k a) a (gathered_area image t g k a)
+  unfolding gather_area gather_refusal step_refusal check after unless
+  gather_is = grind arith
 
   pub settle_table_is : settle_table image t g a k
       ≡ cond (ltb k (count_of image) && is_ready (length t) (count_of image) k a) (settled_table (verdict image (length t) k a) k a t) t
-  unfolding settle_table settle_refusal
-  settle_table_is = step_is (is_ready (length t) (count_of image) k a) t (settled_table (verdict image (length t) k a) k a t)
+  unfolding settle_table settle_refusal step_refusal check after unless
+  settle_table_is = grind arith
 
   pub settle_area_is : settle_area image t g a k
       ≡ cond (ltb k (count_of image) && is_ready (length t) (count_of image) k a) (settled_area (verdict image (length t) k a) (length t) k a) a
-  unfolding settle_area settle_refusal
-  settle_area_is = step_is (is_ready (length t) (count_of image) k a) a (settled_area (verdict image (length t) k a) (length t) k a)
+  unfolding settle_area settle_refusal step_refusal check after unless
+  settle_area_is = grind arith
 
 -- ---- a batch that opens
 
@@ -91,11 +80,7 @@ opens image t g found e =
 -- who waits has not run
 waiting_is : (s : ℕ) → eqb s waiting ≡ not (has_run s)
 unfolding has_run
-waiting_is s = go (zero_or s)
-  where
-    go : (s ≡ 0) ⊎ ((i : ℕ) × (s ≡ suc i)) → eqb s waiting ≡ not (leb gathered s)
-    go (inl e) = rw e
-    go (inr e) = rw e.1 (ne_eqb (suc e.0) waiting (λ z. omega arith) ∙ ap not (sym (le-leb gathered (suc e.0) (omega arith))))
+waiting_is s = grind arith
 
 -- nobody is settled before everybody is gathered
 unfoldable pub Phased : ℕ → (gathered settled : ℕ → Bool) → Type 0
@@ -157,7 +142,7 @@ module _ (image t g : List ℕ) (o : Opens image t g) where
     -- ---- gathering
 
     pub gather_on : (k : ℕ) → Phased n G S → gather_area image table g area k ≡ area_on b (also k G) S T
-    unfolding Phased
+    unfolding Phased also
     gather_on k phased = gather_is image table g area k call_on ∙ go (known (ltb k n)) (known (G k))
       where
         stays : ((j : ℕ) → j < n → G j ≡ also k G j) → area ≡ area_on b (also k G) S T
@@ -165,14 +150,8 @@ module _ (image t g : List ℕ) (o : Opens image t g) where
 
         go : (ltb k n ≡ true) ⊎ (ltb k n ≡ false) → (G k ≡ true) ⊎ (G k ≡ false)
             → cond (ltb k n && waits (length table) k area) (gathered_area image table g k area) area ≡ area_on b (also k G) S T
-        go (inr e) g = rw e (stays (λ j l. sym (also_other k G j (λ q. omega (arith, ltb-false k n e)))))
-        go (inl e) (inl g) =
-            let l : k < n = ltb-true k n e in
-            rw (e, table_length b t S, waits_on k l, g) (stays (λ j _. there j (ℕ_discrete j k)))
-          where
-            there : (j : ℕ) → Dec (j ≡ k) → G j ≡ also k G j
-            there j (yes q) = rw q (g ∙ sym (also_own k G))
-            there j (no q) = sym (also_other k G j q)
+        go (inr e) g = rw e (stays (λ j l. grind (arith, eqb-true)))
+        go (inl e) (inl g) = rw (e, table_length b t S, waits_on k (ltb-true k n e), g) (stays (λ j l. grind (arith, eqb-true)))
         go (inl e) (inr g) =
             let l : k < n = ltb-true k n e in
             rw (e, table_opening b t S (λ j m. phased k j l m g), waits_on k l, g)
@@ -209,26 +188,13 @@ module _ (image t g : List ℕ) (o : Opens image t g) where
 
     settling : (k : ℕ) → asked k ≡ true → Settling k
     settling k e =
-        let w = and_both (ltb k n) _ e in
-        let l : k < n = ltb-true k n w.0 in
-        let s = and_both (every n G) _ (sym (ready_on k l) ∙ w.1) in
-        let r = and_both (G k && not (S k)) (gets_settled b k) s.1 in
-        let g = and_both (G k) (not (S k)) r.0 in
-        record { number = l; everybody = s.0; own = g.0; unsettled = nots (S k) g.1; ran = r.1 }
+        let l : k < n = ltb-true k n (and_left (ltb k n) _ e) in
+        grind (arith, ready_on k l)
 
     -- where they fail, nobody who is settled at all is newly settled
     not_settling : (k : ℕ) → asked k ≡ false → (j : ℕ) → j < n → gets_settled b j ≡ true → S j ≡ settled_too k j
-    not_settling k e j l f = go (known (every n G)) (ℕ_discrete j k)
-      where
-        go : (every n G ≡ true) ⊎ (every n G ≡ false) → Dec (j ≡ k) → S j ≡ cond (every n G) (also k S) S j
-        go (inr a) d = rw a
-        go (inl a) (no q) = rw a (sym (also_other k S j q))
-        go (inl a) (yes q) =
-            let m : k < n = rw q at l in
-            let settled : S k ≡ true =
-            not_false (λ s. clash (both_and (lt-ltb k n m)
-            (ready_on k m ∙ both_and a (both_and (both_and (every_at n G a k m) (ap not s)) (rw q at f)))) e) in
-            rw (a, q) (settled ∙ sym (also_own k S))
+    unfolding also
+    not_settling k e j l f = grind (arith, eqb-true, ready_on k, every_at n G)
 
     module _ (k : ℕ) (s : Settling k) where
       all : (j : ℕ) → j < n → G j ≡ true
