@@ -155,8 +155,6 @@ module _ {image t g : List ℕ} {w : World} (end : PaperEnd image t g w) where
   -- program 0 is not carried; where there is none, the area ends before its slot
   pub end_zero : in_group Carried (length t) w.area 0 ≡ false
   unfolding in_group is_in
-  end_zero = go (known (ltb 0 (count_of image)))
-    where
-      go : (ltb 0 (count_of image) ≡ true) ⊎ (ltb 0 (count_of image) ≡ false) → is_carried (state_of (length t) 0 w.area) ≡ false
-      go (inl e) = rw (end.state_is 0 (ltb-true _ _ e)) (zero_ends (batch_of image t g))
-      go (inr e) = ap is_carried (state_past (length t) (count_of image) 0 w.area (rw end_sized at end.checks.sized) (ltb-false _ _ e)) ∙ waiting_uncarried
+  end_zero =
+      let past = state_past (length t) (count_of image) 0 w.area (rw end_sized at end.checks.sized) in
+      grind (arith, end.state_is 0, zero_ends (batch_of image t g), past, waiting_uncarried)

@@ -29,11 +29,7 @@ use Rattle.promises.proofs.Views.{Fitting, mark_on_lem}
 
 -- a run that has a cell in a set has finished
 set_finished : (q : ListKind) (c : ℕ) (r : Run) (l : Log) → has c (cells_of q (kept r l)) ≡ true → keeps r ≡ true
-set_finished q c Finished l h = refl
-set_finished Reads c (Rejected code) l h = absurd (has_none c h)
-set_finished Stores c (Rejected code) l h = absurd (has_none c h)
-set_finished Reads c (Faulted kind at) l h = absurd (has_none c h)
-set_finished Stores c (Faulted kind at) l h = absurd (has_none c h)
+set_finished q c r l h = grind (arith, has_none c)
 
 module _ (b : Batch) (T k : ℕ) (fits : Fitting b T) (l : k < b.programs) (q : ListKind) (m : MarkKind) where
   abbrev area : List ℕ

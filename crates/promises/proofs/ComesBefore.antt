@@ -35,11 +35,7 @@ use Rattle.promises.proofs.WhyCarried.{asks}
 behind_none : (reads stores : ℕ → List ℕ) (k p : ℕ) → meets (reads k) (stores p) ≡ true → (o : List ℕ) → Ordered reads stores o → behind k p o ≡ false
 unfolding behind
 behind_none reads stores k p m [] h = refl
-behind_none reads stores k p m (x ∷ o) h = go (known (eqb x p)) (behind_none reads stores k p m o h.1)
-  where
-    go : (eqb x p ≡ true) ⊎ (eqb x p ≡ false) → behind k p o ≡ false → cond (eqb x p) (has k o) (behind k p o) ≡ false
-    go (inl e) ih = rw e (not_true (λ there. clash m (rw (eqb-true x p e) at (h.0 k there))))
-    go (inr e) ih = rw e ih
+behind_none reads stores k p m (x ∷ o) h = grind (arith, eqb-true, behind_none reads stores k p m o, h.0 k)
 
 module _ (image t g : List ℕ) (w : World) (run : RunToEnd image t g w) (k : ℕ) (number : k < count_of image) where
   abbrev b : Batch
