@@ -1,5 +1,5 @@
 -- What the programs `cells` and `guards` say where they write nothing: the words of one line, behind the program's name. Assumes nothing.
-use Rattle.std.specs.Prelude.{◌≡◌, ℕ, ◌+◌, ◌/◌, ◌%◌, min, Bool, cond, ◌&&◌, List, [], ◌∷◌, ◌++◌, length, ◌==◌, nat_le, slice_index, slice_set}
+use Rattle.std.specs.Prelude.{◌≡◌, ℕ, ◌+◌, ◌/◌, ◌%◌, min, Bool, cond, ◌&&◌, List, [], ◌∷◌, ◌++◌, length, ◌==◌, nat_le, slice_index, slice_set, Result, Ok, Err}
 use Rattle.text.specs.Ascii.{ascii}
 use Rattle.text.specs.Decimal.{decimal}
 use Rattle.text.specs.Filled.{filled, texts}
@@ -8,8 +8,8 @@ use Rattle.image.specs.Limits.{min_cells, max_cells}
 use Rattle.guard.specs.Signed.{lowest}
 use Rattle.arguments.specs.declared.Kind.{Kind}
 use Rattle.arguments.specs.declared.Kind.TheVariants.{Cells, Ends}
-use Rattle.arguments.specs.declared.Reading.{Reading}
-use Rattle.arguments.specs.declared.Reading.TheVariants.{Word, Over, Under, NoWord}
+use Rattle.arguments.specs.declared.NoWord.{NoWord}
+use Rattle.arguments.specs.declared.NoWord.TheVariants.{Over, Under, NoNumber}
 use Rattle.arguments.specs.Kinds.{per_cell, most_arguments, largest}
 use Rattle.arguments.specs.Readings.{reading}
 
@@ -76,11 +76,14 @@ unfoldable pub no_number_words : (place : ℕ) (word : List ℕ) → List ℕ
 no_number_words place word = about (ascii "argument # is no number: ") (place ∷ []) word
 
 -- by what word it is: nothing is said of one that is a word
-unfoldable pub argument_words : Kind → Reading → (place : ℕ) (word : List ℕ) → List ℕ
-argument_words kind (Word w) place word = []
-argument_words kind Over place word = over_words kind place word
-argument_words kind Under place word = under_words place word
-argument_words kind NoWord place word = no_number_words place word
+unfoldable pub no_word_words : Kind → NoWord → (place : ℕ) (word : List ℕ) → List ℕ
+no_word_words kind Over place word = over_words kind place word
+no_word_words kind Under place word = under_words place word
+no_word_words kind NoNumber place word = no_number_words place word
+
+unfoldable pub argument_words : Kind → Result ℕ NoWord → (place : ℕ) (word : List ℕ) → List ℕ
+argument_words kind (Ok w) place word = []
+argument_words kind (Err none) place word = no_word_words kind none place word
 
 -- none of these has more bytes
 abbrev pub most_words : ℕ
@@ -88,11 +91,9 @@ most_words = 100
 
 -- ---- an argument as word k of a list
 
-unfoldable pub with_word : Reading → (list : List ℕ) (k : ℕ) → List ℕ
-with_word (Word w) l k = slice_set l k w
-with_word Over l k = l
-with_word Under l k = l
-with_word NoWord l k = l
+unfoldable pub with_word : Result ℕ NoWord → (list : List ℕ) (k : ℕ) → List ℕ
+with_word (Ok w) l k = slice_set l k w
+with_word (Err none) l k = l
 
 -- The contract of the call that takes an argument as a word: what is said, if anything, and the list.
 pub record ArgumentSays (kind : Kind) (word : List ℕ) (k : ℕ) (l out : List ℕ) (r : ℕ) (l' out' : List ℕ) : Type 0 where

@@ -1,11 +1,11 @@
--- The laws of signed numbers and guards: the code's comparison is the signed one, and the list that is made for the full range has it. Assumes nothing.
-use Rattle.std.proofs.Common.{◌≡◌, ℕ, suc, ◌+◌, ◌-◌, ◌*◌, ◌%◌, ◌^◌, ◌<◌, ◌≤◌, true, false, not, ltb, List, pos, negsuc, ◌∙◌, arith, le-ltb, lt-ltb, eq-eqb, ne_eqb}
+-- The laws of signed numbers and guards: the code's comparison is the signed one, and the list that is made for the full range has it.
+-- Assumes nothing.
+use Rattle.std.proofs.Common.{int_lt, ◌≡◌, ℕ, suc, ◌+◌, ◌-◌, ◌*◌, ◌%◌, ◌^◌, ◌<◌, ◌≤◌, false, ltb, pos, negsuc, ◌∙◌, arith, le-ltb, lt-ltb, eq-eqb, ne_eqb}
 use Rattle.std.proofs.lemmas.Int.{ints}
 use Rattle.std.proofs.lemmas.Bool.Decides.{nat_tests}
-use lib.Signed.{lt_z}
 use Rattle.base.proofs.Tables.{tabulate_at}
 use Rattle.guard.specs.Signed.{signed, lowest, highest}
-use Rattle.guard.specs.Guards.{low_of, high_of, admits, Full, full_end, full_range}
+use Rattle.guard.specs.Guards.{Full, full_end, full_range}
 
 -- ---- a word read as a signed number
 
@@ -29,17 +29,17 @@ abbrev pub moved : ℕ → ℕ
 moved w = (w + lowest) % word
 
 -- "the code's comparison is the signed one": the order of signed numbers is that of the moved words, for every pair of words
-pub signed_order : (x y : ℕ) → x < word → y < word → lt_z (signed x) (signed y) ≡ ltb (moved x) (moved y)
+pub signed_order : (x y : ℕ) → x < word → y < word → int_lt (signed x) (signed y) ≡ ltb (moved x) (moved y)
 unfolding signed
 signed_order x y k l = grind (arith, ints, nat_tests)
 
 -- ---- the full range
 
 -- no word is below the smallest number, and none above the largest
-pub none_lower : (v : ℕ) → v < word → lt_z (signed v) (signed lowest) ≡ false
+pub none_lower : (v : ℕ) → v < word → int_lt (signed v) (signed lowest) ≡ false
 none_lower v h = signed_order v lowest h (omega arith) ∙ le-ltb (moved v) (moved lowest) (omega arith)
 
-pub none_higher : (v : ℕ) → v < word → lt_z (signed highest) (signed v) ≡ false
+pub none_higher : (v : ℕ) → v < word → int_lt (signed highest) (signed v) ≡ false
 none_higher v h = signed_order highest v (omega arith) h ∙ le-ltb (moved highest) (moved v) (omega arith)
 
 -- the list that is made for the full range has it, for every cell whose pair lies in it
@@ -50,14 +50,3 @@ full_range_lem n T h c l =
       low_is = tabulate_at full_end n (2 * c) (omega arith) ∙ rw (eq-eqb (2 * c % 2) 0 (omega arith));
       high_is = tabulate_at full_end n (2 * c + 1) (omega arith) ∙ rw (ne_eqb ((2 * c + 1) % 2) 0 (λ z. omega arith));
     }
-
--- ---- the cases that the code tells apart
-
-module _ (g : List ℕ) (c v : ℕ) where
-  pub too_low : lt_z (signed v) (signed (low_of g c)) ≡ true → admits g c v ≡ false
-  unfolding admits
-  too_low e = rw e
-
-  pub high_enough : lt_z (signed v) (signed (low_of g c)) ≡ false → admits g c v ≡ not (lt_z (signed (high_of g c)) (signed v))
-  unfolding admits
-  high_enough e = rw e

@@ -153,7 +153,7 @@ impl Machine {
         requires { (a < registers) × (self.place < max_instructions) }
         ensures { result ≡ written self a (256 * b + c) }
     {
-        self.written(a, 256 * (b as u32) + (c as u32))
+        self.written(a, 256 * u32::from(b) + u32::from(c))
     }
 
     fn add(self, a: u8, b: u8, c: u8) -> Machine
@@ -245,11 +245,13 @@ impl Machine {
         if i < table.len() {
             if guard::admits(guards, i, v) {
                 slot::note_store(slot, c, v);
-                return self.passed().goes();
+                self.passed().goes()
+            } else {
+                self.faults(FaultKind::Guard)
             }
-            return self.faults(FaultKind::Guard);
+        } else {
+            self.faults(FaultKind::Store)
         }
-        self.faults(FaultKind::Store)
     }
 
     // One turn: the instruction op, a, b, c.
@@ -381,8 +383,8 @@ pub fn run_program(program: &[u8], table: &[u32], guards: &[u32], slot: &mut [u3
     run
 }
 
-// The store at which a program's run stopped, where it did: the cell and the value that the instruction at its end names. It runs the program again, in a slot
-// that is lent for it.
+// The store at which a program's run stopped, where it did: the cell and the value that the instruction at its end names. It runs the program again,
+// in a slot that is lent for it.
 #[tactic(auto, using(crate::proofs::Laws::last_registers))]
 pub fn last_store(program: &[u8], table: &[u32], guards: &[u32], slot: &mut [u32]) -> Store
     requires { CanRun program.now table.now guards.now slot.old }

@@ -1,23 +1,10 @@
 -- A cell's place in a list, and a list with the cell once. Assumes nothing.
-use Prim.Native.Nat.{ℕ, zero, suc, ◌+◌, ◌-◌, ◌≤◌, ◌<◌}
-use mathlib.Core.Bool.{Bool, true, false, not, cond}
-use mathlib.Core.Logic.{◌⊎◌, inl, inr}
-use mathlib.Core.Path.{◌≡◌, refl, sym, ap, ◌∙◌}
-use Rattle.std.proofs.Common.{Option, Some, None, IfSome, is_some}
-use mathlib.Core.List.{List, [], ◌∷◌, ◌++◌}
-use native.Mathlib.Numerals.{add-one}
-use native.Mathlib.Omega.{arith}
-use lib.ListN.{length, get_or, length-append}
-use lib.Dec.{eqb}
-use borrow.Author.Tests.{eqb-true, eq-eqb, ne_eqb}
-use Rattle.base.specs.Words.{has, distinct, words}
+use Rattle.std.proofs.Common.{ℕ, zero, suc, ◌+◌, ◌≤◌, ◌<◌, Bool, true, false, not, cond, ◌⊎◌, inl, inr, ◌≡◌, refl, sym, Option, Some, IfSome, is_some, List, [], ◌∷◌, ◌++◌, add-one, arith, length, get_or, eqb, eqb-true, eq-eqb, ne_eqb}
+use Rattle.std.proofs.lemmas.List.{length_push}
+use Rattle.base.specs.Words.{has, distinct}
 use Rattle.base.proofs.Bools.{clash, not_true, nots, and_left, and_right}
 use Rattle.base.proofs.Members.{has_cases, has_none, has_get_or, has_left, has_right, has_head, has_either, has_only, distinct_snoc}
-use Rattle.base.proofs.Parts.{words_length, words_snoc}
 use Rattle.slot.specs.Log.{place_in, found_place, later, newest_by, newest_in, once_by, once}
-
-pub length_snoc : (xs : List ℕ) (x : ℕ) → length (xs ++ (x ∷ [])) ≡ length xs + 1
-length_snoc xs x = length-append xs (x ∷ [])
 
 -- ---- the place that is said
 
@@ -129,7 +116,8 @@ unfolding once
 once_old c xs k e = rw e
 
 -- each law of `once` is shown for a new cell and for an old one
-once_by_lem : (c : ℕ) (xs : List ℕ) (P : List ℕ → Type 0) → (place_in c xs ≡ 0 → P (xs ++ (c ∷ []))) → ((k : ℕ) → place_in c xs ≡ suc k → P xs) → P (once c xs)
+once_by_lem : (c : ℕ) (xs : List ℕ) (P : List ℕ → Type 0) → (place_in c xs ≡ 0 → P (xs ++ (c ∷ [])))
+    → ((k : ℕ) → place_in c xs ≡ suc k → P xs) → P (once c xs)
 unfolding once
 once_by_lem c xs P new old = go (place_in c xs) refl
   where
@@ -139,7 +127,7 @@ once_by_lem c xs P new old = go (place_in c xs) refl
 
 module _ (c : ℕ) (xs : List ℕ) where
   pub once_length : length (once c xs) ≤ length xs + 1
-  once_length = once_by_lem c xs (λ ys. length ys ≤ length xs + 1) (λ e. omega (arith, length_snoc xs c)) (λ k e. omega arith)
+  once_length = once_by_lem c xs (λ ys. length ys ≤ length xs + 1) (λ e. omega (arith, length_push xs c)) (λ k e. omega arith)
 
   pub once_has : has c (once c xs) ≡ true
   once_has = once_by_lem c xs (λ ys. has c ys ≡ true) (λ e. has_right c xs (c ∷ []) (has_head c [])) (λ k e. present c xs k e)

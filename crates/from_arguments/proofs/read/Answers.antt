@@ -15,9 +15,3 @@ read_words-requires g c =
     let n = c.count-n.result in
     let whole : n - 0 ≡ n = omega arith in
     rw (whole, length-take-le n c.args.list.now (omega (arith, few, c.requires))) (omega (arith, few, most_ends c.args.kind))
-
-pub returns-then-read_words : goal.returns-then-read_words
-returns-then-read_words g c =
-    let few : c.count-n.result ≤ most_arguments c.args.kind =
-    c.complains_of_count.ensures c.if-complains_of_count.false in
-    (few, search rules)
