@@ -1,6 +1,6 @@
 -- The search for the lowest cell that shows a dependency: a turn of it, and that it finds one exactly where there is one. Assumes nothing.
 use Prim.Native.Nat.{ℕ, ◌+◌, ◌≤◌, ◌<◌}
-use mathlib.Core.Path.{◌≡◌, refl, sym, subst, ◌∙◌}
+use mathlib.Core.Path.{◌≡◌, refl, sym}
 use mathlib.Core.Logic.{◌⊎◌, inl, inr}
 use mathlib.Core.Bool.{Bool, true, false, cond, ◌&&◌}
 use mathlib.Core.List.{List}
@@ -9,7 +9,7 @@ use lib.Dec.{ltb}
 use lib.ListN.{length, get_or}
 use borrow.Author.Tests.{ltb-true, ltb-false, lt-ltb}
 use Rattle.base.specs.Words.{has, words}
-use Rattle.std.specs.Prelude.{Option, Some, None}
+use Rattle.std.specs.Prelude.{Some, None}
 use Rattle.base.proofs.Bools.{known, clash, and_both, both_and, same_test}
 use Rattle.base.proofs.Leasts.{Smallest, least_smallest, is_least}
 use Rattle.base.proofs.Members.{has_get_or}

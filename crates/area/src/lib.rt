@@ -118,7 +118,11 @@ fn lower_cell(area: &[u32], marks: usize, number: usize, found: usize, cell: usi
     requires { marks + cell < length area.now }
     ensures { result ≡ lower_cell marks number area.now found cell }
 {
-    if cell < found && earlier(area[marks + cell], number) { cell } else { found }
+    if cell < found && earlier(area[marks + cell], number) {
+        cell
+    } else {
+        found
+    }
 }
 
 // The lowest cell of the list whose mark names an earlier program; `cells` where there is none.

@@ -9,6 +9,7 @@ use Rattle.image.specs.Refusals.{refusing, passed}
 use Rattle.image.specs.Assembler.{Instruction, set, load, store, reject, program, image}
 use Rattle.image.specs.Bench.{x, y, copy, example_1, example_2}
 use Rattle.guard.specs.Guards.{full_range, full_for}
+use Rattle.machine.specs.declared.FaultKind.TheVariants as fault
 use Rattle.machine.specs.declared.Run.TheVariants.{Finished, Rejected, Faulted}
 use Rattle.area.specs.Sketch.{slot, area}
 use Rattle.steps.specs.Answers.{done_with, numbers_of_gathered}
@@ -119,11 +120,11 @@ only_state_and_detail = refl
 
 -- ---- "When done, gathering and settling return the slot's state and detail"
 
-answers : map (gather_answer failing (5 ∷ 6 ∷ []) (full_range 4) (zeros 404)) (0 ∷ 1 ∷ 2 ∷ 3 ∷ []) ≡ Ok (Rejected 7) ∷ Ok (Faulted 2 4) ∷ Ok (Faulted 1 4) ∷ Ok Finished ∷ []
+answers : map (gather_answer failing (5 ∷ 6 ∷ []) (full_range 4) (zeros 404)) (0 ∷ 1 ∷ 2 ∷ 3 ∷ []) ≡ Ok (Rejected 7) ∷ Ok (Faulted fault.Store 4) ∷ Ok (Faulted fault.Load 4) ∷ Ok Finished ∷ []
 unfolding opened
 answers = refl
 
-numbers : map numbers_of_gathered (Ok (Rejected 7) ∷ Ok (Faulted 2 4) ∷ Ok (Faulted 1 4) ∷ Ok Finished ∷ [])
+numbers : map numbers_of_gathered (Ok (Rejected 7) ∷ Ok (Faulted fault.Store 4) ∷ Ok (Faulted fault.Load 4) ∷ Ok Finished ∷ [])
     ≡ done_with 2 7 ∷ done_with 3 516 ∷ done_with 3 260 ∷ done_with 1 0 ∷ []
 numbers = refl
 
