@@ -135,3 +135,6 @@ module _ (blockers : List ℕ) (left rest : ℕ) (u : Unseen blockers left rest)
         go : (j : ℕ) → (j ≡ i) ⊎ (has_bit rest j ≡ false) → free blockers left j ≡ false
         go j (inl q) = rw q (free_is ∙ ne_eqb _ _ e)
         go j (inr q) = u.others j q
+
+-- a search for a program that is free
+pub ruleset program_by_program = (unseen_start, unseen_next, unseen_end)

@@ -6,6 +6,8 @@ use native.Mathlib.Omega.{arith}
 use lib.Bits.{bit_xor}
 use Rattle.base.specs.Words.{first}
 use Rattle.base.specs.Masks.{word_bits}
+use Rattle.base.proofs.Numbers.{first_le}
+use Rattle.base.proofs.Masks.{shifted}
 use Rattle.listing.specs.Order.{grow}
 use Rattle.listing.specs.Masks.{free, picks}
 
@@ -29,3 +31,5 @@ module _ (n k : ℕ) (blockers : List ℕ) (left : ℕ) where
   pub all_taken : n ≤ k → picks (n - k) blockers left ≡ []
   unfolding picks
   all_taken h = let e : n - k ≡ 0 = omega arith in rw e
+
+pub ruleset taking = (one_taken, none_taken, all_taken, first_le, shifted)

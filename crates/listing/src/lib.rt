@@ -69,7 +69,9 @@ fn bits_for(cells: &[u32], readers: &Readers) -> u8
     requires { All (λ c. c < max_cells) cells.now }
     ensures { result ≡ bits_for readers.now 0 cells.now }
 {
-    cells.iter().fold(0, |found, cell| found | readers[*cell as usize])
+    cells
+        .iter()
+        .fold(0, |found, cell| found | readers[*cell as usize])
 }
 
 // Whether program i is committed.
@@ -172,7 +174,7 @@ fn fill_blockers(
 }
 
 // The first program that is left and that no other that is left keeps back.
-#[tactic(auto, using(crate::proofs::Masks::unseen_start, crate::proofs::Masks::unseen_found, crate::proofs::Masks::unseen_next, crate::proofs::Masks::unseen_end))]
+#[tactic(auto, using(crate::proofs::Masks::program_by_program))]
 fn next_free(blockers: &[u64; image::Image::PROGRAMS], left: u64) -> Option<usize>
     ensures { MatchOption result (first (free blockers.now left) word_bits ≡ 0) (λ i. first (free blockers.now left) word_bits ≡ i + 1) }
 {
@@ -185,7 +187,7 @@ fn next_free(blockers: &[u64; image::Image::PROGRAMS], left: u64) -> Option<usiz
 }
 
 // Takes programs until none is free; returns those that are taken, in their order.
-#[tactic(auto, using(crate::proofs::Turns::one_taken, crate::proofs::Turns::none_taken, crate::proofs::Turns::all_taken, base::proofs::Numbers::first_le, base::proofs::Masks::shifted, std::proofs::lemmas::Grind::common_steps))]
+#[tactic(auto, using(crate::proofs::Turns::taking, std::proofs::lemmas::Grind::common_steps))]
 fn pick_all<'a>(
     blockers: &[u64; image::Image::PROGRAMS],
     all: u64,

@@ -6,7 +6,7 @@ use Rattle.listing.proofs.Readers.{slots_below, blockers_start}
 use Rattle.listing.proofs.fill_blockers.Goals as goal
 
 pub loop-start-init : goal.loop-start-init
-loop-start-init c = let e : min 0 c.args.n ≡ 0 = omega arith in rw (e, c.requires.2) (blockers_start c.args.cells c.args.set c.args.area.now c.ranges.set.fits)
+loop-start-init c = let e : min 0 c.args.n ≡ 0 = omega arith in rw (e, c.requires.2) (blockers_start _ _ _ c.ranges.set.fits)
 
 pub add_octet-requires : goal.add_octet-requires
 add_octet-requires c =
