@@ -72,11 +72,11 @@ module _ (image t g : List ℕ) (w : World) (run : RunToEnd image t g w) (k : �
   module _ (carried : is_carried_in b k ≡ true) where
     ran : gets_settled b k ≡ true
     unfolding is_carried_in
-    ran = (and_both (gets_settled b k) (not (commits b k)) carried).0
+    ran = grind arith
 
     uncommitted : commits b k ≡ false
     unfolding is_carried_in
-    uncommitted = nots (commits b k) (and_both (gets_settled b k) (not (commits b k)) carried).1
+    uncommitted = grind arith
 
     -- the decision is to carry it, and its slot says so
     carried_for : decision_on b k ≡ Carried (reason b k)
@@ -114,12 +114,10 @@ module _ (image t g : List ℕ) (w : World) (run : RunToEnd image t g w) (k : �
   -- Every carried program gets its cause, and 13 is for the others: 15 never happens.
   pub why_refuses : why_refusal image w.table g w.area k ≡ cond (is_carried_in b k) passed (Err refusal.NotCarried)
   unfolding why_refusal carried_refusal
-  why_refuses = go (known (is_carried_in b k))
+  why_refuses = grind (arith, not_refused, others)
     where
-      go : (is_carried_in b k ≡ true) ⊎ (is_carried_in b k ≡ false)
-          → why_refusal image w.table g w.area k ≡ cond (is_carried_in b k) passed (Err refusal.NotCarried)
-      go (inl e) = sym (not_refused e) ∙ rw e
-      go (inr e) = sym (first_refuses _ (first_passes asks refl (fails _ (group_is ∙ e))) refl) ∙ rw e
+      others : is_carried_in b k ≡ false → Err refusal.NotCarried ≡ why_refusal image w.table g w.area k
+      others e = first_refuses _ (first_passes asks refl (fails _ (group_is ∙ e))) refl
 
   -- "say the reason with its cause .. prove it of the programs' own runs from the opening table": the answer's reason is the paper's, its cell is the
   -- lowest that this program's run and an earlier finished program's share so, and the program is the smallest of those for that cell.
