@@ -143,19 +143,13 @@ module _ (image t g : List ℕ) (o : Opens image t g) where
 
     pub gather_on : (k : ℕ) → Phased n G S → gather_area image table g area k ≡ area_on b (also k G) S T
     unfolding Phased also
-    gather_on k phased = gather_is image table g area k call_on ∙ go (known (ltb k n)) (known (G k))
+    gather_on k phased = grind (arith, gather_is image table g area k call_on, table_length b t S, waits_on k, goes, stays)
       where
-        stays : ((j : ℕ) → j < n → G j ≡ also k G j) → area ≡ area_on b (also k G) S T
-        stays same = on_ext b G S (also k G) S T same (λ j _ _. refl)
+        goes : k < n → G k ≡ false → gathered_area image table g k area ≡ area_on b (also k G) S T
+        goes l new = rw (table_opening b t S (λ j m. phased k j l m new)) (gathered_more b G S T k fitting l (phased k k l l new))
 
-        go : (ltb k n ≡ true) ⊎ (ltb k n ≡ false) → (G k ≡ true) ⊎ (G k ≡ false)
-            → cond (ltb k n && waits (length table) k area) (gathered_area image table g k area) area ≡ area_on b (also k G) S T
-        go (inr e) g = rw e (stays (λ j l. grind (arith, eqb-true)))
-        go (inl e) (inl g) = rw (e, table_length b t S, waits_on k (ltb-true k n e), g) (stays (λ j l. grind (arith, eqb-true)))
-        go (inl e) (inr g) =
-            let l : k < n = ltb-true k n e in
-            rw (e, table_opening b t S (λ j m. phased k j l m g), waits_on k l, g)
-            (gathered_more b G S T k fitting l (phased k k l l g))
+        stays : ltb k n && not (G k) ≡ false → area ≡ area_on b (also k G) S T
+        stays e = on_ext b G S (also k G) S T (λ j l. grind (arith, eqb-true)) (λ j _ _. refl)
 
     -- ---- settling
 
@@ -205,36 +199,29 @@ module _ (image t g : List ℕ) (o : Opens image t g) where
 
       table_settled : settled_table (decision_on b k) k area table ≡ table_on b (also k S) t
       unfolding settled_table decision_on
-      table_settled = go (commits b k) ∙ sym (table_more b t S k s.number s.unsettled)
-        where
-          go : (c : Bool) → settled_table (cond c Committed (Carried (reason b k))) k area table
-              ≡ cond c (store_all (write_set b k) (new_values b k) table) table
-          go true =
-              rw (
-                table_length b t S,
-                own_list b G S T k fitting s.number all Stores,
-                own_values b G S T k fitting s.number all,
-              )
-          go false = refl
+      table_settled =
+          let values = own_values b G S T k fitting s.number all in
+          let cells = own_list b G S T k fitting s.number all Stores in
+          grind (arith, table_length b t S, table_more b t S k s.number s.unsettled)
 
       area_settled : settled_area (decision_on b k) T k area ≡ area_on b G (also k S) T
       area_settled =
           settled_more b G S T k fitting s.number s.own s.unsettled (decision_on b k) (decision_state b k s.ran) (decision_detail b k s.ran)
 
     pub settle_table_on : (k : ℕ) → settle_table image table g area k ≡ table_on b (settled_too k) t
-    settle_table_on k =
-        settle_table_is image table g area k call_on ∙ rw (table_length b t S) (go (known (asked k)))
+    settle_table_on k = grind (arith, settle_table_is image table g area k call_on, table_length b t S, done, stays)
       where
-        go : (asked k ≡ true) ⊎ (asked k ≡ false)
-            → cond (asked k) (settled_table (verdict image T k area) k area table) table ≡ table_on b (settled_too k) t
-        go (inl e) = let s = settling k e in rw (e, settles_as k s, s.everybody) (table_settled k s)
-        go (inr e) = rw e (table_ext b t S (settled_too k) (not_settling k e))
+        done : asked k ≡ true → settled_table (verdict image T k area) k area table ≡ table_on b (settled_too k) t
+        done e = let s = settling k e in rw (settles_as k s, s.everybody) (table_settled k s)
+
+        stays : asked k ≡ false → table ≡ table_on b (settled_too k) t
+        stays e = table_ext b t S (settled_too k) (not_settling k e)
 
     pub settle_area_on : (k : ℕ) → settle_area image table g area k ≡ area_on b G (settled_too k) T
-    settle_area_on k =
-        settle_area_is image table g area k call_on ∙ rw (table_length b t S) (go (known (asked k)))
+    settle_area_on k = grind (arith, settle_area_is image table g area k call_on, table_length b t S, done, stays)
       where
-        go : (asked k ≡ true) ⊎ (asked k ≡ false)
-            → cond (asked k) (settled_area (verdict image T k area) T k area) area ≡ area_on b G (settled_too k) T
-        go (inl e) = let s = settling k e in rw (e, settles_as k s, s.everybody) (area_settled k s)
-        go (inr e) = rw e (on_ext b G S G (settled_too k) T (λ _ _. refl) (not_settling k e))
+        done : asked k ≡ true → settled_area (verdict image T k area) T k area ≡ area_on b G (settled_too k) T
+        done e = let s = settling k e in rw (settles_as k s, s.everybody) (area_settled k s)
+
+        stays : asked k ≡ false → area ≡ area_on b G (settled_too k) T
+        stays e = on_ext b G S G (settled_too k) T (λ _ _. refl) (not_settling k e)
