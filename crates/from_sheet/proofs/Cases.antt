@@ -52,7 +52,7 @@ sheet_with n m = ascii "rule 1\n" ++ joined (replicate n (ascii "program\n" ++ j
 
 -- 51: with its line
 line_51 : map (λ text. answer text (room 100)) ([] ∷ ascii "rule 3\n" ∷ ascii "rule 1\nprogram\nend 0 0 00\n" ∷ ascii "rule 1\nprogram" ∷ [])
-    ≡ bad 1 ∷ bad 1 ∷ bad 3 ∷ bad 3 ∷ []
+    ≡ bad 1 ∷ bad 1 ∷ bad 3 ∷ bad 2 ∷ []
 unfolding opened
 line_51 = refl
 

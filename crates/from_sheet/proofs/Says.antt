@@ -9,6 +9,7 @@ use lib.ListN.{length}
 use borrow.Author.Tests.{leb-true, le-leb, lt-leb, eqb-true, eq-eqb}
 use Rattle.std.specs.Prelude.{Ok, Err}
 use Rattle.text.specs.Writing.{PageSays}
+use Rattle.text.proofs.Pages.{page_bytes}
 use Rattle.image.specs.Limits.{max_programs, max_instructions, instruction_bytes, head_bytes, max_bytes}
 use Rattle.image.specs.declared.refusals.ImageRefusal.TheVariants.{Header, Offsets}
 use Rattle.image.specs.declared.refusals.Refusal.TheVariants.{TooShort}
@@ -18,14 +19,14 @@ use Rattle.writer.proofs.Programs.{length_image}
 use Rattle.sheet.specs.declared.Unwritten.{Unwritten}
 use Rattle.sheet.specs.declared.Unwritten.TheVariants.{Refused, BadLine}
 use Rattle.sheet.specs.Answers.{as_image, numbers_of_written}
-use Rattle.sheet.specs.Sheet.{lines_of, bad_line, rule_of, programs}
+use Rattle.sheet.specs.Sheet.{lines_of, bad_line, rule_of, leading, programs}
 use Rattle.from_sheet.specs.declared.counting.Sizes.{Sizes}
 use Rattle.from_sheet.specs.FromSheet.{programs_of, image_of_sheet, few_programs, short_programs, programs_fault, programs_refusal, sheet_refusal, image_of_refusal}
 use Rattle.from_sheet.specs.FromSheet.{image_of_answer, image_of_output, ImageOfSays}
-use Rattle.from_sheet.specs.Passes.{lines_from, nothing, bodies, still_short, Readable, still_fault, Sized, Writable}
+use Rattle.from_sheet.specs.Passes.{lines_from, tally, nothing, bodies, still_short, Readable, still_fault, Sized, Writable}
 use Rattle.from_sheet.proofs.Passing.{lines_all}
 use Rattle.from_sheet.proofs.Pieces.{all_bodies}
-use Rattle.from_sheet.proofs.Sizing.{tally_programs, tally_bytes, tally_longest, joined_short}
+use Rattle.from_sheet.proofs.Sizing.{tally_programs, tally_bytes, tally_longest, nothing_leads, joined_short}
 use Rattle.from_sheet.proofs.ReadPrograms.{all_faults, all_readable}
 
 -- ---- what checks 51 to 44 show
@@ -53,6 +54,10 @@ image_short sheet e =
     omega (arith, leb-true (length ps) max_programs p.0, joined_short ps p.1, length_image (rule_of (lines_of sheet)) ps)
 
 -- ---- what the sizes of a sheet show
+
+-- those that a survey finds are the sheet's, where every line is allowed
+pub sized : {sheet : List ℕ} {s : Sizes} → bad_line sheet ≡ 0 → s ≡ tally nothing (lines_from 0 sheet) → Sized sheet s
+sized {sheet} good e = record { sizes_are = e; nothing_leads = ap leading (lines_all sheet) ∙ nothing_leads sheet good }
 
 module _ {sheet : List ℕ} {s : Sizes} (z : Sized sheet s) where
   same_programs : programs (lines_from 0 sheet) ≡ programs_of sheet
@@ -91,10 +96,10 @@ module _ {sheet : List ℕ} {s : Sizes} (z : Sized sheet s) where
       rw (← lines_all sheet)
       (omega (arith, bytes, program_count, ap length (all_bodies ls z.nothing_leads), length_image (rule_of ls) (programs ls)))
 
-  -- where checks 2 to 44 have passed, there are not too many, and the image can be written where it has room
-  module _ (good : programs_refusal (programs_of sheet) ≡ passed) where
+  -- where checks 51 to 44 have passed, there are not too many, and the image can be written where it has room
+  module _ (good : sheet_refusal sheet ≡ passed) where
     pub few_programs_lem : s.programs ≤ max_programs
-    few_programs_lem = leb-true s.programs max_programs (few_are ∙ (programs_shown (programs_of sheet) good).0)
+    few_programs_lem = leb-true s.programs max_programs (few_are ∙ (programs_shown (programs_of sheet) (sheet_shown sheet good).1).0)
 
     pub writable : {out : List ℕ} → length (image_of_sheet sheet) ≤ length out → Writable sheet out s.programs
     writable h =
@@ -102,7 +107,7 @@ module _ {sheet : List ℕ} {s : Sizes} (z : Sized sheet s) where
           count = program_count;
           few = few_programs_lem;
           nothing_leads = z.nothing_leads;
-          short = image_short sheet good;
+          short = image_short sheet (sheet_shown sheet good).1;
           room = record { fits = omega arith };
         }
 
@@ -127,7 +132,7 @@ module _ (sheet out : List ℕ) where
     unfolding image_of_refusal image_of_answer image_of_output
     done_says h w =
         let e : passed ≡ image_of_refusal sheet out = first_passes refl good (goes_on _ (le-leb (length (image_of_sheet sheet)) (length out) h) refl) in
-        record { answer = done_as Err e refl (ap Ok w.answer); output = done_as (λ r. out) e refl w.bytes }
+        record { answer = done_as Err e refl (ap Ok w.answer); output = done_as (λ r. out) e refl (page_bytes w) }
 
   -- a length that is answered is an image's
   pub image_small : (numbers_of_written (image_of_answer sheet out)).length ≤ max_bytes

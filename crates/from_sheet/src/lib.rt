@@ -37,6 +37,7 @@ fn programs_refusal(sheet: &[u8], sizes: Sizes) -> Result<(), ImageRefusal>
 }
 
 // The sizes of a sheet that is not refused: checks 51, 2, 3, 41 to 44.
+#[tactic(auto, using(crate::proofs::Says::sized), unfolding(crate::specs::FromSheet::sheet_refusal, image::specs::Refusals::check, image::specs::Refusals::given_as))]
 fn checked(sheet: &[u8]) -> Result<Sizes, Unwritten>
     ensures { Checks sheet.now result }
 {
@@ -55,7 +56,7 @@ pub fn sheet_refusal(sheet: &[u8]) -> Result<(), Unwritten>
 
 // The image's length, for check 10.
 fn image_length(sheet: &[u8], sizes: Sizes) -> usize
-    requires { Sized sheet.now sizes × (programs_refusal (programs_of sheet.now) ≡ passed) }
+    requires { Sized sheet.now sizes × (sheet_refusal sheet.now ≡ passed) }
     ensures { result ≡ length (image_of_sheet sheet.now) }
 {
     image::head_bytes(sizes.programs) + image::Image::INSTRUCTION_BYTES * sizes.instructions

@@ -13,7 +13,7 @@ use crate::lines::Lines;
 
 // The offset that a line brings, if it begins a program; and where the program ends with it, of which so much stands before the line.
 #[tactic(auto, using(text::proofs::Pages::put_none), unfolding(crate::specs::Passes::offset_at, crate::specs::Passes::body_of))]
-fn put_offset(page: &mut Page<'_>, end: usize, line: sheet::Line) -> usize
+fn put_offset(page: &mut Page, end: usize, line: sheet::Line) -> usize
     requires { Fits page.old (offset_at end line) × (end ≤ max_bytes) }
     ensures put { Put page.old (offset_at end line) page.new }
     ensures end { result ≡ end + length (body_of line) }
@@ -30,7 +30,7 @@ fn put_offset(page: &mut Page<'_>, end: usize, line: sheet::Line) -> usize
 }
 
 // All offsets, of which the first is given.
-fn put_offsets(page: &mut Page<'_>, sheet: &[u8], first: usize)
+fn put_offsets(page: &mut Page, sheet: &[u8], first: usize)
     requires { Fits page.old (offsets_from first (lines_from 0 sheet.now)) × (first + length (bodies (lines_from 0 sheet.now)) ≤ max_bytes) }
     ensures { Put page.old (offsets_from first (lines_from 0 sheet.now)) page.new }
 {
@@ -43,7 +43,7 @@ fn put_offsets(page: &mut Page<'_>, sheet: &[u8], first: usize)
 
 // The bytes of a line's instruction.
 #[tactic(auto, using(text::proofs::Pages::put_none), unfolding(crate::specs::Passes::body_of))]
-pub fn put_body(page: &mut Page<'_>, line: sheet::Line)
+pub fn put_body(page: &mut Page, line: sheet::Line)
     requires { Fits page.old (body_of line) }
     ensures { Put page.old (body_of line) page.new }
 {
@@ -53,7 +53,7 @@ pub fn put_body(page: &mut Page<'_>, line: sheet::Line)
 }
 
 // The bytes of all instructions.
-fn put_bodies(page: &mut Page<'_>, sheet: &[u8])
+fn put_bodies(page: &mut Page, sheet: &[u8])
     requires { Fits page.old (bodies (lines_from 0 sheet.now)) }
     ensures { Put page.old (bodies (lines_from 0 sheet.now)) page.new }
 {

@@ -25,5 +25,5 @@ returns c =
       in-None w ↦ ap leading w.in-None.ensures.steps.0 ∙ leading_none
     | in-Some+then-begins w ↦ ap leading w.in-Some.ensures.steps ∙ leading_end _ _ (sym w.begins.ensures ∙ w.if-begins.true)
     ] in
-    page_done c.new-page.ensures.same c.new-page.ensures.front
-    (rw c.into_iter-line-iterator.ensures.into_iter_gives at (partly_end c.loop-line.invariant last)) (search rules) c.end.ensures
+    let put = rw c.into_iter-line-iterator.ensures.into_iter_gives at (partly_end c.loop-line.invariant last) in
+    search (rules, put)
