@@ -2,7 +2,8 @@
 use mathlib.Core.Path.{◌≡◌, refl}
 use mathlib.Core.Bool.{true, false}
 use mathlib.Core.List.{[], ◌∷◌, map}
-use Rattle.text.specs.declared.Numeral.TheVariants.{Number, TooLarge, NoNumber}
+use Rattle.std.proofs.Common.{Ok, Err}
+use Rattle.text.specs.declared.Misread.TheVariants.{TooLarge, NoNumber}
 use Rattle.text.specs.Ascii.{ascii}
 use Rattle.text.specs.Decimal.{decimal, is_number, numeral}
 use Rattle.text.specs.Filled.{filled, texts}
@@ -32,7 +33,7 @@ no_numbers = refl
 
 -- up to the largest, and one more; a number of many digits is too large, and a word that is none stays none
 up_to : map (numeral 255) (ascii "0" ∷ ascii "255" ∷ ascii "256" ∷ ascii "1000000000000000000000" ∷ ascii "x" ∷ ascii "0255" ∷ [])
-    ≡ Number 0 ∷ Number 255 ∷ TooLarge ∷ TooLarge ∷ NoNumber ∷ NoNumber ∷ []
+    ≡ Ok 0 ∷ Ok 255 ∷ Err TooLarge ∷ Err TooLarge ∷ Err NoNumber ∷ Err NoNumber ∷ []
 unfolding opened
 up_to = refl
 

@@ -1,43 +1,44 @@
 -- Laws of a text with numbers in it. Assumes nothing.
 use mathlib.Core.Path.{◌≡◌, refl, ap, ◌∙◌}
-use mathlib.Core.Logic.{◌⊎◌, inl, inr}
-use mathlib.Core.Bool.{Bool, true, false, cond, ◌&&◌}
+use mathlib.Core.Bool.{Bool, true, false, cond}
 use mathlib.Core.List.{List, [], ◌∷◌, ◌++◌, append_assoc, append-nil}
 use Prim.Native.Nat.{ℕ, zero, suc, ◌+◌, ◌-◌, ◌*◌, ◌≤◌, ◌<◌}
 use native.Mathlib.Omega.{arith}
 use native.Mathlib.Numerals.{add-one}
-use lib.Dec.{eqb, ltb}
+use Rattle.std.proofs.lemmas.Grind.{common_steps}
+use lib.Dec.{eqb}
 use lib.ListN.{length, get_or, drop, length-append, drop_of_length-le}
 use lib.Seq.{drop-cons}
-use borrow.Author.Tests.{ltb-true, ltb-false}
-use Rattle.base.proofs.Bools.{known, and_both}
+use borrow.Author.Tests.{ne_eqb}
+use Rattle.std.proofs.lemmas.List.{nil_from_length}
 use Rattle.text.specs.Decimal.{decimal}
 use Rattle.text.specs.Filled.{hash, shown, left, filled, texts}
-use Rattle.text.specs.Writing.{Wrote, Room}
-use Rattle.text.proofs.Writing.{room_first, room_then, wrote_both}
 use Rattle.text.proofs.Decimals.{decimal_short}
 
 -- ---- one byte: a # while there is a number, and any other
 
-module _ (b j : ℕ) (ns : List ℕ) where
-  pub shown_number : eqb b hash && ltb j (length ns) ≡ true → (shown b (drop j ns) ≡ decimal (get_or ns j 0)) × (left b (drop j ns) ≡ drop (j + 1) ns)
+module _ (b : ℕ) (ns : List ℕ) where
+  pub shown_number : b ≡ hash → 0 < length ns → (shown b ns ≡ decimal (get_or ns 0 0)) × (left b ns ≡ drop 1 ns)
   unfolding shown left
-  shown_number h =
-      let p = and_both (eqb b hash) (ltb j (length ns)) h in
-      let e = drop-cons ns j 0 (ltb-true _ _ p.1) in
-      (rw (e, p.0), rw (e, p.0, add-one j))
-
-  pub shown_itself : eqb b hash && ltb j (length ns) ≡ false → (shown b (drop j ns) ≡ b ∷ []) × (left b (drop j ns) ≡ drop j ns)
-  unfolding shown left
-  shown_itself h = by (known (eqb b hash))
+  shown_number e h = go ns h
     where
-      other : (xs : List ℕ) → eqb b hash ≡ false → (shown b xs ≡ b ∷ []) × (left b xs ≡ xs)
-      other [] e = (refl, refl)
-      other (n ∷ xs) e = (rw e, rw e)
+      go : (ns : List ℕ) → 0 < length ns → (shown b ns ≡ decimal (get_or ns 0 0)) × (left b ns ≡ drop 1 ns)
+      go [] h = absurd (omega arith)
+      go (n ∷ ns) h = (rw e, rw e)
 
-      by : (eqb b hash ≡ true) ⊎ (eqb b hash ≡ false) → (shown b (drop j ns) ≡ b ∷ []) × (left b (drop j ns) ≡ drop j ns)
-      by (inl e) = let f : drop j ns ≡ [] = drop_of_length-le ns (ltb-false j (length ns) (rw e at h)) in (rw f, rw f)
-      by (inr e) = other (drop j ns) e
+  pub shown_last : length ns ≡ 0 → (shown b ns ≡ b ∷ []) × (left b ns ≡ ns)
+  unfolding shown left
+  shown_last h = let f : ns ≡ [] = nil_from_length ns h in rw f (refl, refl)
+
+  pub shown_itself : (b ≡ hash → ⊥) → (shown b ns ≡ b ∷ []) × (left b ns ≡ ns)
+  unfolding shown left
+  shown_itself h = go ns
+    where
+      go : (ns : List ℕ) → (shown b ns ≡ b ∷ []) × (left b ns ≡ ns)
+      go [] = (refl, refl)
+      go (n ∷ ns) = let f = ne_eqb b hash h in (rw f, rw f)
+
+pub ruleset showing = (common_steps, shown_number, shown_last, shown_itself)
 
 -- ---- a text that has come to its byte k
 
@@ -98,18 +99,11 @@ rest_of f k (suc j) =
     let e : k + suc j ≡ suc (k + j) = omega arith in
     (t.0 ++ f (k + j), rw (e, t.1, append_assoc))
 
--- a turn of a loop that writes them: there is room for text k, and behind it text k + 1 is to come
-module _ (f : ℕ → List ℕ) {k n : ℕ} (low : k < n) {d : List ℕ} {at : ℕ} {out : List ℕ} {to : ℕ} (h : Wrote d at (texts f k) out to)
-    (room : Room d at (texts f n)) where
-  next_room : Room d at (texts f k ++ f k)
-  next_room =
-      let t = rest_of f (k + 1) (n - (k + 1)) in
-      let e : n ≡ k + 1 + (n - (k + 1)) = omega arith in
-      let w : texts f n ≡ (texts f k ++ f k) ++ t.0 = ap (texts f) e ∙ t.1 ∙ ap (λ (x : List ℕ). x ++ t.0) (texts_more f k) in
-      room_first (texts f k ++ f k) t.0 (rw w at room)
+-- a turn of a loop that puts them: behind those below k there is room for text k
+pub texts_fit : (f : ℕ → List ℕ) (k n : ℕ) → k < n → length (texts f k) + length (f k) ≤ length (texts f n)
+texts_fit f k n h =
+    let t = rest_of f (k + 1) (n - (k + 1)) in
+    let e : n ≡ k + 1 + (n - (k + 1)) = omega arith in
+    omega (arith, ap length (ap (texts f) e ∙ t.1), length-append (texts f (k + 1)) t.0, length_texts f k)
 
-  pub text_room : Room out to (f k)
-  text_room = room_then (texts f k) (f k) next_room h
-
-  pub text_turn : {out' : List ℕ} {to' : ℕ} → Wrote out to (f k) out' to' → Wrote d at (texts f (k + 1)) out' to'
-  text_turn w = rw (texts_more f k) (wrote_both (texts f k) (f k) next_room h w)
+pub ruleset turns = (common_steps, texts_none, texts_more)

@@ -1,6 +1,6 @@
 -- Laws of reading a number, one byte a turn. Assumes nothing.
-use mathlib.Core.Path.{◌≡◌, refl, sym, ap}
-use mathlib.Core.Bool.{true, false, not, ◌&&◌}
+use mathlib.Core.Path.{◌≡◌, refl, ap}
+use mathlib.Core.Bool.{Bool, true, false, not, cond, ◌&&◌}
 use mathlib.Core.List.{List, [], ◌∷◌}
 use mathlib.Core.Logic.{◌⊎◌, inl, inr}
 use Prim.Native.Nat.{ℕ, suc, ◌+◌, ◌-◌, ◌*◌, ◌≤◌, ◌<◌}
@@ -11,28 +11,25 @@ use lib.ListN.{length, get_or, drop, drop_of_length-le}
 use lib.Seq.{drop-cons}
 use borrow.Author.Tests.{le-leb, leb-true, leb-false, lt-leb}
 use Rattle.base.proofs.Bools.{known}
-use Rattle.text.specs.declared.Numeral.TheVariants.{Number, TooLarge, NoNumber}
+use Rattle.std.proofs.Common.{Result, Ok, Err}
+use Rattle.text.specs.declared.Misread.{Misread}
+use Rattle.text.specs.declared.Misread.TheVariants.{TooLarge, NoNumber}
 use Rattle.text.specs.Decimal.{digit, is_digit, all_digits, leads, is_number, value_from, value, numeral, over, capped}
-
--- ---- digits
-
-pub digits_end : (w : List ℕ) (k : ℕ) → length w ≤ k → all_digits (drop k w) ≡ true
-unfolding all_digits
-digits_end w k h = rw (drop_of_length-le w h)
-
-pub digits_next : (w : List ℕ) (k : ℕ) → k < length w → all_digits (drop k w) ≡ is_digit (get_or w k 0) && all_digits (drop (k + 1) w)
-unfolding all_digits
-digits_next w k h = rw (drop-cons w k 0 h, add-one k)
 
 -- ---- the first digit
 
-pub leads_short : (w : List ℕ) → length w < 2 → eqb (length w) 1 ≡ leads w
+pub leads_none : (w : List ℕ) → length w ≡ 0 → leads w ≡ false
 unfolding leads
-leads_short [] h = refl
-leads_short (b ∷ []) h = refl
-leads_short (b ∷ c ∷ bs) h = absurd (omega arith)
+leads_none [] h = refl
+leads_none (b ∷ bs) h = absurd (omega arith)
 
-pub leads_long : (w : List ℕ) → 2 ≤ length w → not (eqb (get_or w 0 0) (digit 0)) ≡ leads w
+pub leads_one : (w : List ℕ) → length w ≡ 1 → leads w ≡ true
+unfolding leads
+leads_one [] h = absurd (omega arith)
+leads_one (b ∷ []) h = refl
+leads_one (b ∷ c ∷ bs) h = absurd (omega arith)
+
+pub leads_long : (w : List ℕ) → 2 ≤ length w → leads w ≡ not (eqb (get_or w 0 0) (digit 0))
 unfolding leads
 leads_long [] h = absurd (omega arith)
 leads_long (b ∷ []) h = absurd (omega arith)
@@ -55,33 +52,69 @@ capped_from v w = go (known (leb v over))
         let f : capped v ≡ over = omega (arith, l) in
         rw f (omega (arith, l, grows over w, grows v w))
 
-pub value_end : (w : List ℕ) (k v : ℕ) → length w ≤ k → value_from v (drop k w) ≡ v
-unfolding value_from
-value_end w k v h = rw (drop_of_length-le w h)
+-- what stands behind the number v, read
+abbrev pub read : ℕ → List ℕ → Result ℕ Misread
+read v w = cond (all_digits w) (Ok (capped (value_from v w))) (Err NoNumber)
 
-pub value_next : (w : List ℕ) (k v u : ℕ) → k < length w → u ≡ capped (10 * v + (get_or w k 0 - digit 0)) → capped (value_from v (drop k w)) ≡ capped (value_from u (drop (k + 1) w))
-unfolding value_from
-value_next w k v u h e = rw (e, drop-cons w k 0 h, add-one k) (sym (capped_from (10 * v + (get_or w k 0 - digit 0)) (drop (suc k) w)))
+pub read_end : (w : List ℕ) (k v : ℕ) → length w ≤ k → v ≤ over → Ok v ≡ read v (drop k w)
+unfolding value_from all_digits
+read_end w k v h l = let e : v ≡ capped v = omega arith in rw (drop_of_length-le w h) (ap Ok e)
+
+module _ (w : List ℕ) (k v : ℕ) (h : k < length w) where
+  -- what one byte gives
+  abbrev pub next : Result ℕ Misread
+  next = cond (is_digit (get_or w k 0)) (Ok (capped (10 * v + (get_or w k 0 - digit 0)))) (Err NoNumber)
+
+  pub read_next : (u : ℕ) → Ok u ≡ next → (u ≤ over) × (read u (drop (k + 1) w) ≡ read v (drop k w))
+  unfolding value_from all_digits
+  read_next u e = rw (drop-cons w k 0 h, add-one k) (go (is_digit (get_or w k 0)) e)
+    where
+      go : (d : Bool) → Ok u ≡ cond d (Ok (capped (10 * v + (get_or w k 0 - digit 0)))) (Err NoNumber) → (u ≤ over)
+          × (read u (drop (suc k) w) ≡ cond (d && all_digits (drop (suc k) w)) (Ok (capped (value_from (10 * v + (get_or w k 0 - digit 0)) (drop (suc k) w)))) (Err NoNumber))
+      go true e = let f : u ≡ capped (10 * v + (get_or w k 0 - digit 0)) = cc in (omega (arith, f), rw (f, capped_from (10 * v + (get_or w k 0 - digit 0)) (drop (suc k) w)))
+      go false e = absurd cc
+
+  pub read_none : (e : Misread) → Err e ≡ next → Err e ≡ read v (drop k w)
+  unfolding value_from all_digits
+  read_none e f = rw (drop-cons w k 0 h) (go (is_digit (get_or w k 0)) f)
+    where
+      go : (d : Bool) → Err e ≡ cond d (Ok (capped (10 * v + (get_or w k 0 - digit 0)))) (Err NoNumber)
+          → Err e ≡ cond (d && all_digits (drop (suc k) w)) (Ok (capped (value_from (10 * v + (get_or w k 0 - digit 0)) (drop (suc k) w)))) (Err NoNumber)
+      go true f = absurd cc
+      go false f = f
 
 -- ---- what the tests and the number tell
 
 module _ (w : List ℕ) (largest : ℕ) where
-  pub no_digits : all_digits w ≡ false → NoNumber ≡ numeral largest w
+  pub no_digits : (e : Misread) → Err e ≡ read 0 w → Err e ≡ numeral largest w
   unfolding numeral is_number
-  no_digits e = rw e
+  no_digits e h = go (all_digits w) h
+    where
+      go : (d : Bool) → Err e ≡ cond d (Ok (capped (value w))) (Err NoNumber)
+          → Err e ≡ cond (d && leads w) (cond (leb (value w) largest) (Ok (value w)) (Err TooLarge)) (Err NoNumber)
+      go true h = absurd cc
+      go false h = h
 
-  pub no_lead : all_digits w ≡ true → leads w ≡ false → NoNumber ≡ numeral largest w
-  unfolding numeral is_number
-  no_lead d e = rw (d, e)
+  module _ (v : ℕ) (h : Ok v ≡ read 0 w) where
+    are_digits : (all_digits w ≡ true) × (v ≡ capped (value w))
+    are_digits = go (all_digits w) h
+      where
+        go : (d : Bool) → Ok v ≡ cond d (Ok (capped (value w))) (Err NoNumber) → (d ≡ true) × (v ≡ capped (value w))
+        go true h = (refl, cc)
+        go false h = absurd cc
 
-  module _ (d : all_digits w ≡ true) (l : leads w ≡ true) (v : ℕ) (e : v ≡ capped (value w)) (small : largest < over) where
-    pub too_large : largest < v → TooLarge ≡ numeral largest w
+    pub no_lead : leads w ≡ false → Err NoNumber ≡ numeral largest w
     unfolding numeral is_number
-    too_large h = let f : leb (value w) largest ≡ false = lt-leb (value w) largest (omega (arith, e)) in rw (d, l, f)
+    no_lead e = rw (are_digits.0, e)
 
-    pub a_number : v ≤ largest → Number v ≡ numeral largest w
-    unfolding numeral is_number
-    a_number h =
-        let g : v ≡ value w = omega (arith, e) in
-        let f : leb (value w) largest ≡ true = le-leb (value w) largest (omega (arith, g)) in
-        rw (d, l, f) (ap Number g)
+    module _ (l : leads w ≡ true) (small : largest < over) where
+      pub too_large : largest < v → Err TooLarge ≡ numeral largest w
+      unfolding numeral is_number
+      too_large h = let f : leb (value w) largest ≡ false = lt-leb (value w) largest (omega (arith, are_digits.1)) in rw (are_digits.0, l, f)
+
+      pub a_number : v ≤ largest → Ok v ≡ numeral largest w
+      unfolding numeral is_number
+      a_number h =
+          let g : v ≡ value w = omega (arith, are_digits.1) in
+          let f : leb (value w) largest ≡ true = le-leb (value w) largest (omega (arith, g)) in
+          rw (are_digits.0, l, f) (ap Ok g)

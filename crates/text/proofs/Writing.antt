@@ -1,11 +1,10 @@
 -- Laws of writing one thing after another. Assumes nothing.
 use mathlib.Core.Path.{◌≡◌, refl, sym, ap, ◌∙◌}
-use mathlib.Core.List.{List, [], ◌∷◌, ◌++◌, append_assoc, append-nil}
-use Prim.Native.Nat.{ℕ, ◌+◌, ◌≤◌, ◌<◌}
+use mathlib.Core.List.{List, [], ◌++◌, append_assoc, append-nil}
+use Prim.Native.Nat.{ℕ, ◌+◌, ◌≤◌}
 use native.Mathlib.Omega.{arith}
-use native.Mathlib.Numerals.{add-one}
-use lib.ListN.{length, get_or, set, take, drop, length-set, length-append, length-drop, take-append-drop}
-use lib.Seq.{length-take-le, take_at, drop_at, drop-drop, sets-eq, paste, paste-suc, take-length}
+use lib.ListN.{length, take, drop, length-append, length-drop, take-append-drop}
+use lib.Seq.{length-take-le, take_at, drop_at, drop-drop}
 use Rattle.text.specs.Writing.{pasted, Wrote, Room, PageSays}
 
 module _ (d : List ℕ) (at : ℕ) (w : List ℕ) (room : at + length w ≤ length d) where
@@ -96,22 +95,3 @@ module _ {d : List ℕ} {at : ℕ} {whole out : List ℕ} {to : ℕ} {rest : Lis
     partly_more w =
         let f : whole ≡ (p.so_far ++ x) ++ rest' = p.is ∙ rw e (sym (append_assoc p.so_far x rest')) in
         record { so_far = p.so_far ++ x; wrote = wrote_both p.so_far x (room_first (p.so_far ++ x) rest' (rw f at room)) p.wrote w; is = f }
-
--- ---- one byte, two bytes; and a copy, one byte a turn
-
-pub wrote_byte : (d : List ℕ) (at x : ℕ) → Room d at (x ∷ []) → Wrote d at (x ∷ []) (set d at x) (at + 1)
-unfolding pasted
-wrote_byte d at x r = record { bytes = sets-eq (x ∷ []) d at r.fits; long = simp length-set; next = refl }
-
-pub wrote_pair : (d : List ℕ) (at x y : ℕ) → at + 2 ≤ length d → Wrote d at (x ∷ y ∷ []) (set (set d at x) (at + 1) y) (at + 2)
-unfolding pasted
-wrote_pair d at x y h = record { bytes = rw add-one (sets-eq (x ∷ y ∷ []) d at h); long = simp length-set; next = refl }
-
-pub wrote_copy : (d : List ℕ) (at : ℕ) (s out : List ℕ) (k r : ℕ) → out ≡ paste d at s k → length out ≡ length d → k ≡ length s → r ≡ at + k
-    → Wrote d at s out r
-unfolding pasted
-wrote_copy d at s out k r e l f g = record { bytes = e ∙ rw (f, take-length); long = l; next = omega arith }
-
-pub copy_turn : (d : List ℕ) (at : ℕ) (s out : List ℕ) (k v : ℕ) → out ≡ paste d at s k → at + k < length d → k < length s → v ≡ get_or s k 0
-    → set out (at + k) v ≡ paste d at s (k + 1)
-copy_turn d at s out k v e hd hs f = rw (e, f, add-one k) (paste-suc d at s k 0 hd hs)

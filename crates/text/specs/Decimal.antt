@@ -1,7 +1,7 @@
 -- A number in decimal: how it is written, and which words are one. Document 02, ask 1: "in decimal .. no leading zeros". Assumes nothing.
-use Rattle.std.specs.Prelude.{ℕ, zero, suc, ◌+◌, ◌-◌, ◌*◌, ◌/◌, ◌%◌, min, Bool, true, false, not, cond, ◌&&◌, List, [], ◌∷◌, ◌++◌, eqb, ltb, leb}
-use Rattle.text.specs.declared.Numeral.{Numeral}
-use Rattle.text.specs.declared.Numeral.TheVariants.{Number, TooLarge, NoNumber}
+use Rattle.std.specs.Prelude.{ℕ, zero, suc, ◌+◌, ◌-◌, ◌*◌, ◌/◌, ◌%◌, min, Bool, true, false, not, cond, ◌&&◌, List, [], ◌∷◌, ◌++◌, eqb, ltb, leb, Result, Ok, Err}
+use Rattle.text.specs.declared.Misread.{Misread}
+use Rattle.text.specs.declared.Misread.TheVariants.{TooLarge, NoNumber}
 
 -- ---- writing
 
@@ -51,8 +51,8 @@ abbrev pub value : List ℕ → ℕ
 value = value_from 0
 
 -- a word as a number up to the largest that is meant
-unfoldable pub numeral : (largest : ℕ) → List ℕ → Numeral
-numeral largest word = cond (is_number word) (cond (leb (value word) largest) (Number (value word)) TooLarge) NoNumber
+unfoldable pub numeral : (largest : ℕ) → List ℕ → Result ℕ Misread
+numeral largest word = cond (is_number word) (cond (leb (value word) largest) (Ok (value word)) (Err TooLarge)) (Err NoNumber)
 
 -- 2^32, which is more than any number that is meant: reading goes no further, however many digits there are
 abbrev pub over : ℕ

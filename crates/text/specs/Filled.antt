@@ -1,7 +1,5 @@
 -- A text with numbers in it. Assumes nothing.
-use Rattle.std.specs.Prelude.{ℕ, zero, suc, cond, List, [], ◌∷◌, ◌++◌, ◌≡◌, eqb, drop}
-use Rattle.text.specs.declared.Filling.{Filling}
-use Rattle.text.specs.Writing.{Wrote}
+use Rattle.std.specs.Prelude.{ℕ, zero, suc, cond, List, [], ◌∷◌, ◌++◌, eqb}
 use Rattle.text.specs.Decimal.{decimal}
 
 -- the byte that stands for a number
@@ -27,8 +25,3 @@ filled (b ∷ bs) ns = shown b ns ++ filled bs (left b ns)
 unfoldable pub texts : (ℕ → List ℕ) → ℕ → List ℕ
 texts f zero = []
 texts f (suc n) = texts f n ++ f n
-
--- What one byte of the text leaves: where the next one goes, and how many of the numbers have been used.
-pub record Shown (before : List ℕ) (at : Filling) (b : ℕ) (ns : List ℕ) (after : List ℕ) (r : Filling) : Type 0 where
-  pub wrote : Wrote before at.to (shown b (drop at.used ns)) after r.to
-  pub numbers : drop r.used ns ≡ left b (drop at.used ns)

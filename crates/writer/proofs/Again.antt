@@ -2,7 +2,7 @@
 -- Each piece that is written is the part of the image that stands there. Assumes nothing.
 use mathlib.Core.Path.{◌≡◌, refl, sym, ap, ◌∙◌}
 use mathlib.Core.Bool.{Bool, true, false, cond, ◌&&◌}
-use mathlib.Core.List.{List, [], ◌∷◌, ◌++◌, append-nil}
+use mathlib.Core.List.{List, [], ◌∷◌, ◌++◌}
 use Prim.Native.Nat.{ℕ, zero, suc, ◌+◌, ◌*◌, ◌/◌, ◌%◌, ◌≤◌, ◌<◌}
 use native.Mathlib.Omega.{arith}
 use native.Mathlib.Numerals.{add-one}
@@ -24,7 +24,7 @@ use Rattle.image.proofs.Laws.{Accepted, lies, part_short, part_whole}
 use Rattle.writer.specs.Joined.{number, joined, ends, offsets, image_of}
 use Rattle.writer.specs.Picked.{pick, picked, all_of}
 use Rattle.writer.proofs.Good.{Fine, All, all_append}
-use Rattle.writer.proofs.Programs.{joined_append, joined_one, ends_append, picked_count, pick_in}
+use Rattle.writer.proofs.Programs.{joined_append, joined_one, ends_append, ends_one, picked_count, pick_in}
 
 -- ---- what an image that is accepted has: a rule, and good programs
 
@@ -79,10 +79,6 @@ number_back a b p q =
     let f : (a + 256 * b) / 256 ≡ b = omega arith in
     let g : b % 256 ≡ b = omega arith in
     rw (e, f, g)
-
-ends_one : (start : ℕ) (p : List ℕ) → ends start (p ∷ []) ≡ number (start + length p)
-unfolding ends
-ends_one start p = append-nil (number (start + length p))
 
 module _ (image : List ℕ) (bytes : (i : ℕ) → byte_at image i < 256) where
   number_again : (at : ℕ) → at + 2 ≤ length image → number (number_at image at) ≡ words at 2 image

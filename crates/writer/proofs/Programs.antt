@@ -6,19 +6,19 @@ use mathlib.Core.List.{List, [], ◌∷◌, ◌++◌, append_assoc, append-nil}
 use Prim.Native.Nat.{ℕ, zero, suc, ◌+◌, ◌-◌, ◌*◌, ◌≤◌, ◌<◌}
 use native.Mathlib.Omega.{arith}
 use native.Mathlib.Numerals.{add-one}
+use Rattle.std.proofs.lemmas.Grind.{common_steps}
 use lib.ListN.{length, get_or, length-append, get_or-append}
 use lib.Seq.{get_or_at}
 use Rattle.base.specs.Words.{count}
 use Rattle.base.specs.Masks.{has_bit}
 use Rattle.base.proofs.Counts.{count_below}
 use Rattle.base.proofs.Numbers.{below}
-use Rattle.text.specs.Writing.{Wrote, Room}
-use Rattle.text.proofs.Writing as writing
-use Rattle.text.proofs.Writing.{wrote_none, wrote_more, room_first, room_then}
+use Rattle.text.specs.declared.page.Page.{Page}
+use Rattle.text.specs.Paper.{Put, Fits}
+use Rattle.text.proofs.Pages.{put_more}
 use Rattle.image.specs.Limits.{max_program_bytes, head_bytes}
 use Rattle.image.specs.Image.{count_of, part_of, refusal_of}
 use Rattle.image.proofs.Laws.{lies, lies_short, accepted, few_programs_lem}
-use Rattle.writer.specs.declared.Place.{Place}
 use Rattle.writer.specs.Joined.{number, joined, ends, offsets, image_of}
 use Rattle.writer.specs.Picked.{pick, picked}
 use Rattle.writer.specs.Writing.{Ended, EndRoom, Source}
@@ -61,47 +61,20 @@ pub length_image : (rule : ℕ) (ps : List (List ℕ)) → length (image_of rule
 unfolding image_of offsets
 length_image rule ps = simp (length-append, length_number, length_ends) (omega arith)
 
--- ---- the ends of none, and of one
-
-pub ended_none : (d : List ℕ) (place : Place) → Ended d place [] d place
-unfolding ends joined
-ended_none d place = record { wrote = wrote_none d place.to; end_is = omega arith }
-
-pub ended_one : {d : List ℕ} {place : Place} {part after : List ℕ} {to end : ℕ} → Wrote d place.to (number end) after to → end ≡ place.end + length part
-    → Ended d place (part ∷ []) after (record { to = to; end = end })
+pub ends_none : (start : ℕ) → ends start [] ≡ []
 unfolding ends
-ended_one {part = part} w e = record { wrote = rw (append-nil, ← e) w; end_is = rw (joined_one part) e }
+ends_none start = refl
 
--- ---- the ends of ps and then those of qs; and their bytes
+pub ends_one : (start : ℕ) (p : List ℕ) → ends start (p ∷ []) ≡ number (start + length p)
+unfolding ends
+ends_one start p = append-nil (number (start + length p))
 
-module _ (ps qs : List (List ℕ)) {d : List ℕ} {place : Place} (room : EndRoom d place (ps ++ qs)) where
-  pub first_room : EndRoom d place ps
-  first_room = record { to_fits = omega (arith, room.to_fits, length-append ps qs); end_fits = omega (arith, room.end_fits, length_joined ps qs) }
-
-  module _ {b : List ℕ} {r : Place} (h : Ended d place ps b r) where
-    pub second_room : EndRoom b r qs
-    second_room = record {
-      to_fits = omega (arith, room.to_fits, length-append ps qs, h.wrote.next, h.wrote.long, length_ends place.end ps);
-      end_fits = omega (arith, room.end_fits, length_joined ps qs, h.end_is);
-    }
-
-    pub ended_both : {c : List ℕ} {s : Place} → Ended b r qs c s → Ended d place (ps ++ qs) c s
-    ended_both k = record {
-      wrote = rw (ends_append place.end ps qs, ← h.end_is)
-          (wrote_more h.wrote k.wrote (simp length_ends (omega (arith, room.to_fits, length-append ps qs))));
-      end_is = rw (length_joined ps qs) (omega (arith, h.end_is, k.end_is));
-    }
-
-module _ (ps qs : List (List ℕ)) {d : List ℕ} {at : ℕ} (room : Room d at (joined (ps ++ qs))) where
-  pub first_fits : Room d at (joined ps)
-  first_fits = room_first (joined ps) (joined qs) (rw (joined_append ps qs) at room)
-
-  module _ {b : List ℕ} {r : ℕ} (h : Wrote d at (joined ps) b r) where
-    pub second_fits : Room b r (joined qs)
-    second_fits = room_then (joined ps) (joined qs) (rw (joined_append ps qs) at room) h
-
-    pub wrote_both : {c : List ℕ} {s : ℕ} → Wrote b r (joined qs) c s → Wrote d at (joined (ps ++ qs)) c s
-    wrote_both k = rw (joined_append ps qs) (writing.wrote_both (joined ps) (joined qs) (rw (joined_append ps qs) at room) h k)
+-- the ends of ps and then those of qs
+pub ended_both : {p q r : Page} {start next end : ℕ} {ps qs : List (List ℕ)} → Ended p start ps q next → Ended q next qs r end → Ended p start (ps ++ qs) r end
+ended_both {start = start} {ps = ps} {qs = qs} h k = record {
+  put = rw (ends_append start ps qs, ← h.end_is) (put_more h.put k.put);
+  end_is = rw (length_joined ps qs) (omega (arith, h.end_is, k.end_is));
+}
 
 -- ---- the programs that pass
 
@@ -153,38 +126,34 @@ module _ (test : ℕ → Bool) (image : List ℕ) where
       let e : k + suc j ≡ suc (k + j) = omega arith in
       (t.0 ++ pick test image (k + j), rw (e, t.1, append_assoc))
 
+  -- of the first n, there are at least those below i and program i, if it passes
+  picked_fit : {i n : ℕ} → i < n → (length (picked test image i) + length (pick test image i) ≤ length (picked test image n))
+      × (length (joined (picked test image i)) + length (joined (pick test image i)) ≤ length (joined (picked test image n)))
+  picked_fit {i} {n} low =
+      let t = rest_of (i + 1) (n - (i + 1)) in
+      let e : n ≡ i + 1 + (n - (i + 1)) = omega arith in
+      let f : picked test image n ≡ picked test image i ++ pick test image i ++ t.0 =
+      ap (picked test image) e ∙ t.1 ∙ rw (picked_more i) in
+      rw f (simp length-append (omega arith), simp (joined_append, length-append) (omega arith))
+
   -- a turn of the loop that writes ends, and of the one that writes bytes
-  module _ {i n : ℕ} (low : i < n) where
-    abbrev next : List (List ℕ)
-    next = picked test image i ++ pick test image i
+  module _ {i n : ℕ} (low : i < n) {p q : Page} where
+    pub end_room : {start end : ℕ} → Ended p start (picked test image i) q end → EndRoom p start (picked test image n) → EndRoom q end (pick test image i)
+    end_room {start} {end} h room =
+        let f = picked_fit low in
+        record {
+          fits = record { fits = omega (arith, h.put.at, h.put.long, room.fits.fits, f.0, length_ends) };
+          small = omega (arith, h.end_is, room.small, f.1);
+        }
 
-    rest : (ps : List (List ℕ)) × (picked test image n ≡ next ++ ps)
-    rest =
-        let t = rest_of (i + 1) (n - (i + 1)) in
-        let e : n ≡ i + 1 + (n - (i + 1)) = omega arith in
-        (t.0, ap (picked test image) e ∙ t.1 ∙ ap (λ (x : List (List ℕ)). x ++ t.0) (picked_more i))
+    pub body_room : Put p (joined (picked test image i)) q → Fits p (joined (picked test image n)) → Fits q (joined (pick test image i))
+    body_room h room = let f = picked_fit low in record { fits = omega (arith, h.at, h.long, room.fits, f.1) }
 
-    module _ {d : List ℕ} {place : Place} {out : List ℕ} {at : Place} (h : Ended d place (picked test image i) out at)
-        (room : EndRoom d place (picked test image n)) where
-      next_room : EndRoom d place next
-      next_room = first_room next rest.0 (rw rest.1 at room)
+-- a turn of a loop over programs
+pub ruleset turns = (common_steps, picked_none, picked_more, joined_none, joined_append, ends_none, ends_append)
 
-      pub end_room : EndRoom out at (pick test image i)
-      end_room = second_room (picked test image i) (pick test image i) next_room h
-
-      pub end_turn : {out' : List ℕ} {at' : Place} → Ended out at (pick test image i) out' at' → Ended d place (picked test image (i + 1)) out' at'
-      end_turn k = rw (picked_more i) (ended_both (picked test image i) (pick test image i) next_room h k)
-
-    module _ {d : List ℕ} {at : ℕ} {out : List ℕ} {to : ℕ} (h : Wrote d at (joined (picked test image i)) out to)
-        (room : Room d at (joined (picked test image n))) where
-      next_fits : Room d at (joined next)
-      next_fits = first_fits next rest.0 (rw rest.1 at room)
-
-      pub body_room : Room out to (joined (pick test image i))
-      body_room = second_fits (picked test image i) (pick test image i) next_fits h
-
-      pub body_turn : {out' : List ℕ} {to' : ℕ} → Wrote out to (joined (pick test image i)) out' to' → Wrote d at (joined (picked test image (i + 1))) out' to'
-      body_turn k = rw (picked_more i) (wrote_both (picked test image i) (pick test image i) next_fits h k)
+-- what a program adds, if it passes
+pub ruleset taken = (common_steps, pick_in, pick_out, joined_none, joined_one, ends_none, ends_one)
 
 -- they depend on what passes below n alone
 pub picked_ext : (p q : ℕ → Bool) (image : List ℕ) (n : ℕ) → ((k : ℕ) → k < n → p k ≡ q k) → picked p image n ≡ picked q image n
@@ -216,3 +185,5 @@ module _ {image : List ℕ} {n mask : ℕ} (s : Source image n mask) where
   picked_short zero h = omega (arith, ap length joined_none)
   picked_short (suc k) h =
       omega (arith, length_joined (picked (has_bit mask) image k) (pick (has_bit mask) image k), picked_short k (omega arith), pick_short k (omega arith))
+
+pub ruleset sizes = (turns, pick_short, picked_short)

@@ -2,50 +2,36 @@
 // are those of an image that a mask has.
 #![tactic(auto)]
 
-ghost use Rattle.std.specs.Prelude.{◌≡◌, [], ◌∷◌, ◌+◌, ◌*◌, ◌<◌, ◌≤◌, length};
+ghost use Rattle.std.specs.Prelude.{◌≡◌, ◌*◌, ◌<◌, ◌≤◌, length};
 ghost use Rattle.base.specs.Masks.{has_bit};
-ghost use Rattle.image.specs.Limits.{max_programs, max_program_bytes, min_bytes};
+ghost use Rattle.text.specs.Paper.{Put, Fits};
+ghost use Rattle.image.specs.Limits.{max_program_bytes};
 ghost use Rattle.writer.specs.Joined.{number, joined};
 ghost use Rattle.writer.specs.Picked.{pick, picked};
-ghost use Rattle.text.specs.Writing.{Wrote, Room};
 ghost use Rattle.writer.specs.Writing.{header, Ended, EndRoom, Source};
 
-// Where the next offset goes, and where the last program placed ends.
-#[derive(Clone, Copy)]
-pub struct Place {
-    pub to: usize,
-    pub end: usize,
-}
-
-// Two bytes at a place; returns the place after them.
-pub fn put_pair(out: &mut [u8], at: usize, x: u8, y: u8) -> usize
-    requires { at + 2 ≤ length out.old }
-    ensures { Wrote out.old at (x ∷ y ∷ []) out.new result }
-{
-    out[at] = x;
-    out[at + 1] = y;
-    at + 2
-}
-
 // A number of 16 bits, low byte first.
-pub fn put_number(out: &mut [u8], at: usize, v: usize) -> usize
-    requires { at + 2 ≤ length out.old }
-    ensures { Wrote out.old at (number v) out.new result }
+#[tactic(auto, unfolding(crate::specs::Joined::number))]
+pub fn put_number(page: &mut text::Page, v: usize)
+    requires { Fits page.old (number v) }
+    ensures { Put page.old (number v) page.new }
 {
-    put_pair(out, at, (v % 256) as u8, (v / 256 % 256) as u8)
+    page.bytes(&v.to_le_bytes()[..2])
 }
 
 // Count, rule and zero byte, and the first offset.
-pub fn put_header(out: &mut [u8], count: usize, rule: u8) -> usize
-    requires { (min_bytes ≤ length out.old) × (count < 65536) }
-    ensures { Wrote out.old 0 (header count rule) out.new result }
+#[tactic(auto, unfolding(crate::specs::Writing::header))]
+pub fn put_header(page: &mut text::Page, count: usize, rule: u8)
+    requires { Fits page.old (header count rule) × (count < 65536) }
+    ensures { Put page.old (header count rule) page.new }
 {
-    let a = put_number(out, 0, count);
-    let b = put_pair(out, a, rule, 0);
-    put_number(out, b, image::head_bytes(count))
+    put_number(page, count);
+    page.bytes(&[rule, 0]);
+    put_number(page, image::head_bytes(count))
 }
 
 // Program i's bytes, none where the mask does not have it.
+#[tactic(auto, using(crate::proofs::Programs::taken))]
 fn taken_part(image: &[u8], n: usize, mask: u64, i: usize) -> &[u8]
     requires { Source image.now n mask × (i < n) }
     ensures { result.now ≡ joined (pick (has_bit mask) image.now i) }
@@ -58,53 +44,59 @@ fn taken_part(image: &[u8], n: usize, mask: u64, i: usize) -> &[u8]
 }
 
 // How many bytes the programs have that the mask has.
+#[tactic(auto, using(crate::proofs::Programs::sizes))]
 pub fn taken_bytes(image: &[u8], n: usize, mask: u64) -> usize
     requires { Source image.now n mask }
     ensures { (result ≡ length (joined (picked (has_bit mask) image.now n))) × (result ≤ max_program_bytes * n) }
 {
-    let mut size: usize = 0;
+    let mut size = 0;
     for i in 0..n {
-        let part = taken_part(image, n, mask, i);
-        size += part.len();
+        size += taken_part(image, n, mask, i).len();
     }
     size
 }
 
-// Where program i ends, if the mask has it.
-fn put_end(out: &mut [u8], place: Place, image: &[u8], n: usize, mask: u64, i: usize) -> Place
-    requires { Source image.now n mask × (i < n) × EndRoom out.old place (pick (has_bit mask) image.now i) }
-    ensures { Ended out.old place (pick (has_bit mask) image.now i) out.new result }
+// Where program i ends, if the mask has it; the program before it ends where it begins.
+#[tactic(auto, using(crate::proofs::Programs::taken))]
+fn put_end(
+    page: &mut text::Page,
+    start: usize,
+    image: &[u8],
+    n: usize,
+    mask: u64,
+    i: usize,
+) -> usize
+    requires { Source image.now n mask × (i < n) × EndRoom page.old start (pick (has_bit mask) image.now i) }
+    ensures { Ended page.old start (pick (has_bit mask) image.now i) page.new result }
 {
     if !masks::has(mask, i) {
-        return place;
+        return start;
     }
-    let part = image::part_of(image, i);
-    let end = place.end + part.len();
-    let to = put_number(out, place.to, end);
-    Place { to, end }
+    let end = start + image::part_of(image, i).len();
+    put_number(page, end);
+    end
 }
 
-// Where each program ends that the mask has.
-pub fn put_ends(out: &mut [u8], place: Place, image: &[u8], n: usize, mask: u64) -> Place
-    requires { Source image.now n mask × EndRoom out.old place (picked (has_bit mask) image.now n) }
-    ensures { Ended out.old place (picked (has_bit mask) image.now n) out.new result }
+// Where each program ends that the mask has, of which the first begins at the start; and where the last ends.
+#[tactic(auto, using(crate::proofs::Programs::turns))]
+pub fn put_ends(page: &mut text::Page, start: usize, image: &[u8], n: usize, mask: u64) -> usize
+    requires { Source image.now n mask × EndRoom page.old start (picked (has_bit mask) image.now n) }
+    ensures { Ended page.old start (picked (has_bit mask) image.now n) page.new result }
 {
-    let mut at = place;
+    let mut end = start;
     for i in 0..n {
-        at = put_end(out, at, image, n, mask, i);
+        end = put_end(page, end, image, n, mask, i);
     }
-    at
+    end
 }
 
 // The bytes of the programs that the mask has, one program after another.
-pub fn put_bodies(out: &mut [u8], at: usize, image: &[u8], n: usize, mask: u64) -> usize
-    requires { Source image.now n mask × Room out.old at (joined (picked (has_bit mask) image.now n)) }
-    ensures { Wrote out.old at (joined (picked (has_bit mask) image.now n)) out.new result }
+#[tactic(auto, using(crate::proofs::Programs::turns))]
+pub fn put_bodies(page: &mut text::Page, image: &[u8], n: usize, mask: u64)
+    requires { Source image.now n mask × Fits page.old (joined (picked (has_bit mask) image.now n)) }
+    ensures { Put page.old (joined (picked (has_bit mask) image.now n)) page.new }
 {
-    let mut to = at;
     for i in 0..n {
-        let part = taken_part(image, n, mask, i);
-        to = text::put_bytes(out, to, part);
+        page.bytes(taken_part(image, n, mask, i));
     }
-    to
 }

@@ -1,4 +1,4 @@
--- The loop's invariant: the ends of the programs below i that the mask has stand there. Assumes nothing.
+-- The ends of the programs below i that the mask has are put. Assumes nothing.
 use Prim.Native.Nat.{◌≤◌}
 use Rattle.base.specs.Masks.{has_bit}
 use Rattle.writer.specs.Picked.{picked}
@@ -6,4 +6,4 @@ use Rattle.writer.specs.Writing.{Ended}
 use Rattle.writer.proofs.put_ends.Given as goal
 
 abbrev pub invariant-loop-i : goal.invariant-loop-i
-invariant-loop-i l = (l.i ≤ l.n) × Ended l.initial.out l.initial.at (picked (has_bit l.mask) l.image l.i) l.out l.at
+invariant-loop-i l = (l.i ≤ l.n) × Ended l.fn.page l.start (picked (has_bit l.mask) l.image l.i) l.page l.end
