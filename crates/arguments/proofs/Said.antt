@@ -101,6 +101,9 @@ silent_count kind count = go (eqb count 0) (leb count (most_arguments kind)) (wh
     go false true false e f g h = absurd (odd_said count h)
     go false false c e f g h = absurd (many_said kind count h)
 
+pub silent_few : (kind : Kind) (count : ℕ) → length (count_words kind count) ≡ 0 → count ≤ most_arguments kind
+silent_few kind count e = (silent_count kind count e).few
+
 -- ends that nothing is said of are a guard list: "14 guard list not T pairs" never comes of them
 pub silent_pairs : (g : List ℕ) → length (count_words Ends (length g)) ≡ 0 → pairs_for (length g / 2) g ≡ true
 unfolding pairs_for whole_cells
