@@ -1,16 +1,16 @@
 -- Laws of the prefix and of the guards: a word read back, and how long they are. Assumes nothing.
-use Prim.Native.Nat.{ℕ, zero, suc, ◌+◌, ◌*◌, ◌≤◌, ◌<◌}
+use Prim.Native.Nat.{ℕ, zero, suc, ◌+◌, ◌*◌, ◌/◌, ◌%◌, ◌<◌}
 use mathlib.Core.Path.{◌≡◌, refl}
 use mathlib.Core.Bool.{true}
-use mathlib.Core.List.{List, ◌++◌}
+use mathlib.Core.List.{List}
 use native.Mathlib.Omega.{arith}
 use lib.ListN.{length, get_or, length-append}
+use Rattle.std.specs.Int.{to_le_bytes, w32}
 use borrow.Author.Tests.{eqb-true}
 use Rattle.text.specs.Filled.{texts}
-use Rattle.text.specs.Writing.{Wrote, Room, PageSays}
-use Rattle.text.proofs.Writing.{wrote_both, page_says}
+use Rattle.text.proofs.Fillings.{turns}
 use Rattle.guard.specs.Guards.{guard_words, pairs_for}
-use Rattle.prefix.specs.Prefix.{two, four, cell_at, fours, prefix, prefix_bytes, guard_bytes}
+use Rattle.prefix.specs.Prefix.{four, cell_at, fours, prefix, prefix_bytes, guard_bytes}
 
 -- the four bytes of a word, read back low first
 pub four_back : (n : ℕ) → n < 4294967296
@@ -27,18 +27,15 @@ pub prefix_long : (cells : List ℕ) → length (prefix cells) ≡ prefix_bytes 
 unfolding prefix
 prefix_long cells = rw length-append (omega (arith, cells_long cells (length cells)))
 
-module _ (cells out : List ℕ) (room : prefix_bytes (length cells) ≤ length out) where
-  pub prefix_room : Room out 0 (two (length cells) ++ fours cells)
-  unfolding prefix
-  prefix_room = record { fits = omega (arith, prefix_long cells, room) }
+-- a turn of the loop that puts the words
+pub cell_is : (words : List ℕ) (c : ℕ) → cell_at words c ≡ to_le_bytes w32 (get_or words c 0)
+unfolding cell_at
+cell_is words c =
+    let n : ℕ = get_or words c 0 in
+    let e : n / 65536 / 256 % 256 ≡ n / 16777216 % 256 = omega arith in
+    rw e
 
-  pub prefix_says : {next r : ℕ} {out' out'' : List ℕ} → Wrote out 0 (two (length cells)) out' next
-      → Wrote out' next (fours cells) out'' r → PageSays (prefix cells) out r out''
-  unfolding prefix
-  prefix_says h k = page_says (wrote_both _ _ prefix_room h k)
-
-pub guards_room : (words out : List ℕ) → 4 * length words ≤ length out → Room out 0 (fours words)
-guards_room words out room = record { fits = omega (arith, cells_long words (length words), room) }
+pub ruleset cells = (turns, cell_is, cells_long)
 
 -- eight bytes for each cell
 pub guards_long : (T : ℕ) (g : List ℕ) → pairs_for T g ≡ true → length (fours g) ≡ guard_bytes T

@@ -2,10 +2,11 @@
 // (document 02, ask 5): four bytes for each end, low byte first.
 #![tactic(auto)]
 
-ghost use Rattle.std.specs.Prelude.{◌≡◌, ◌+◌, ◌*◌, ◌≤◌, length, replicate};
-ghost use Rattle.text.specs.Writing.{Wrote, Room, PageSays};
+ghost use Rattle.std.specs.Prelude.{◌≡◌, ◌*◌, ◌≤◌, length, replicate};
+ghost use Rattle.text.specs.Paper.{Put, Fits};
+ghost use Rattle.text.specs.Writing.{PageSays};
 ghost use Rattle.image.specs.Limits.{max_cells};
-ghost use Rattle.prefix.specs.Prefix.{two, four, fours, prefix, prefix_bytes, guard_bytes};
+ghost use Rattle.prefix.specs.Prefix.{fours, prefix, prefix_bytes, guard_bytes};
 
 // The bytes of the longest prefix.
 const MOST: usize = 2 + 4 * image::Image::CELLS;
@@ -17,44 +18,27 @@ pub fn room() -> [u8; MOST]
     [0; MOST]
 }
 
-// A number of 16 bits, low byte first; of a larger one its 16 low bits.
-fn put_two(out: &mut [u8], at: usize, n: u32) -> usize
-    requires { at + 2 ≤ length out.old }
-    ensures { Wrote out.old at (two n) out.new result }
+// Words, one behind the other: four bytes each, low first.
+#[tactic(auto, using(crate::proofs::Prefixes::cells))]
+fn put_fours(page: &mut text::Page, words: &[u32])
+    requires { Fits page.old (fours words.now) }
+    ensures { Put page.old (fours words.now) page.new }
 {
-    let next = text::put_byte(out, at, (n % 256) as u8);
-    text::put_byte(out, next, (n / 256 % 256) as u8)
-}
-
-// A number of 32 bits: four bytes, low first.
-fn put_four(out: &mut [u8], at: usize, n: u32) -> usize
-    requires { at + 4 ≤ length out.old }
-    ensures { Wrote out.old at (four n) out.new result }
-{
-    let next = put_two(out, at, n);
-    put_two(out, next, n / 65536)
-}
-
-// Words, one behind the other.
-fn put_fours(out: &mut [u8], at: usize, words: &[u32]) -> usize
-    requires { Room out.old at (fours words.now) }
-    ensures { Wrote out.old at (fours words.now) out.new result }
-{
-    let n = words.len();
-    let mut to = at;
-    for c in 0..n {
-        to = put_four(out, to, words[c]);
+    for word in words {
+        page.bytes(&word.to_le_bytes());
     }
-    to
 }
 
 // The prefix of a table, at the front of what is lent.
+#[tactic(auto, using(crate::proofs::Prefixes::cells), unfolding(crate::specs::Prefix::prefix))]
 pub fn put_prefix(out: &mut [u8], cells: &[u32]) -> usize
     requires { (length cells.now ≤ max_cells) × (prefix_bytes (length cells.now) ≤ length out.old) }
     ensures { PageSays (prefix cells.now) out.old result out.new }
 {
-    let next = put_two(out, 0, cells.len() as u32);
-    put_fours(out, next, cells)
+    let mut page = text::Page::new(out);
+    page.bytes(&(cells.len() as u16).to_le_bytes());
+    put_fours(&mut page, cells);
+    page.end()
 }
 
 // The bytes of the most guards.
@@ -68,9 +52,12 @@ pub fn guards_room() -> [u8; MOST_GUARDS]
 }
 
 // The guards of a table, at the front of what is lent.
+#[tactic(auto, using(crate::proofs::Prefixes::cells))]
 pub fn put_guards(out: &mut [u8], guards: &[u32]) -> usize
     requires { 4 * length guards.now ≤ length out.old }
     ensures { PageSays (fours guards.now) out.old result out.new }
 {
-    put_fours(out, 0, guards)
+    let mut page = text::Page::new(out);
+    put_fours(&mut page, guards);
+    page.end()
 }

@@ -26,16 +26,22 @@ put_same {p} {q} {r} {w} h k =
     let a : q.out.now ≡ r.out.now = sym (take-append-drop r.at q.out.now) ∙ rw (f, d, take-append-drop) in
     rw (a, e)
 
-pub page_done : {p q : Page} {w out out' : List ℕ} {r : ℕ} → p.out.now ≡ out → p.at ≡ 0 → Put p w q → out' ≡ q.out.now → r ≡ q.at → PageSays w out r out'
-page_done {p} {q} {w} {out} same front h last place =
-    let n : q.at ≡ length w = grind arith in
-    let f : take (length w) q.out.now ≡ w = grind (arith, common_steps) in
-    let d : drop (length w) q.out.now ≡ drop (length w) out = grind (arith, elements) in
-    record {
-      bytes = last ∙ sym (take-append-drop (length w) q.out.now) ∙ rw (f, d);
-      answer = grind arith;
-      fits = grind (arith, common_steps, ap length f);
-    }
+-- ---- a whole page
+
+pub page_done : {p q : Page} {w out out' : List ℕ} {r : ℕ} → p.out.now ≡ out → p.at ≡ 0 → Fits p w → Put p w q → out' ≡ q.out.now → r ≡ q.at
+    → PageSays w out r out'
+page_done same front room h last place = grind (arith, common_steps)
+
+pub page_bytes : {page out out' : List ℕ} {r : ℕ} → PageSays page out r out' → out' ≡ page ++ drop (length page) out
+page_bytes {page} {out} {out'} {r} s =
+    let d : drop (length page) out' ≡ drop (length page) out = grind (arith, elements) in
+    sym (take-append-drop (length page) out') ∙ rw (d, ← s.answer, s.front)
+
+pub page_same : {page out o o' : List ℕ} {r r' : ℕ} → PageSays page out r o → PageSays page out r' o' → ◌≡◌ {A = ℕ × List ℕ} (r, o) (r', o')
+page_same {r = r} {r' = r'} s t =
+    let e : r ≡ r' = s.answer ∙ sym t.answer in
+    let f = page_bytes s ∙ sym (page_bytes t) in
+    rw (e, f)
 
 -- ---- texts one behind the other: those below k are put, and there is room for text k
 

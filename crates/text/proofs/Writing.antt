@@ -3,6 +3,7 @@ use mathlib.Core.Path.{◌≡◌, refl, sym, ap, ◌∙◌}
 use mathlib.Core.List.{List, [], ◌++◌, append_assoc, append-nil}
 use Prim.Native.Nat.{ℕ, ◌+◌, ◌≤◌}
 use native.Mathlib.Omega.{arith}
+use Rattle.std.proofs.lemmas.Grind.{common_steps}
 use lib.ListN.{length, take, drop, length-append, length-drop, take-append-drop}
 use lib.Seq.{length-take-le, take_at, drop_at, drop-drop}
 use Rattle.text.specs.Writing.{pasted, Wrote, Room, PageSays}
@@ -64,12 +65,16 @@ module _ {out : List ℕ} {at : ℕ} (w x : List ℕ) (r : Room out at (w ++ x))
 
 -- a page is written at the front; it is not longer than there is
 pub page_says : {page out out' : List ℕ} {r : ℕ} → Wrote out 0 page out' r → PageSays page out r out'
-page_says {page} {out} {out'} w =
+page_says {page} {out} {out'} {r} w =
     let e : out' ≡ page ++ drop (length page) out = w.bytes ∙ pasted_front out page in
+    let n : r ≡ length page = omega (arith, w.next) in
+    let l : length page ≤ length out = omega (arith, w.long, ap length e, length-append page (drop (length page) out), length-drop (length page) out) in
     record {
-      bytes = e;
-      answer = omega (arith, w.next);
-      fits = omega (arith, w.next, w.long, ap length e, length-append page (drop (length page) out), length-drop (length page) out);
+      answer = n;
+      fits = omega (arith, w.long);
+      front = rw (n, e) (take_at page (drop (length page) out) (length page) refl);
+      behind = λ i h. rw e (grind (arith, common_steps));
+      long = w.long;
     }
 
 -- ---- a text that is written piece by piece: what stands there, and the rest, which is still to come

@@ -1,5 +1,5 @@
 -- What a function that writes leaves: the bytes w at a place, everything else as it was. It returns the place after them. Assumes nothing.
-use Rattle.std.specs.Prelude.{◌≡◌, List, ◌++◌, ℕ, ◌+◌, ◌≤◌, length, take, drop}
+use Rattle.std.specs.Prelude.{◌≡◌, List, ◌++◌, ℕ, ◌+◌, ◌≤◌, length, take, drop, get_or}
 
 unfoldable pub pasted : List ℕ → ℕ → List ℕ → List ℕ
 pasted d at w = take at d ++ w ++ drop (at + length w) d
@@ -15,6 +15,8 @@ pub record Room (out : List ℕ) (at : ℕ) (w : List ℕ) : Type 0 where
 
 -- A call that makes a page: it stands at the front of what is lent, everything behind it is as it was, and its length is the answer.
 pub record PageSays (page out : List ℕ) (r : ℕ) (out' : List ℕ) : Type 0 where
-  pub bytes : out' ≡ page ++ drop (length page) out
   pub answer : r ≡ length page
   pub fits : r ≤ length out'
+  pub front : take r out' ≡ page
+  pub behind : (i : ℕ) → r ≤ i → get_or out' i 0 ≡ get_or out i 0
+  pub long : length out' ≡ length out
