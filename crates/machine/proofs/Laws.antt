@@ -5,6 +5,7 @@ use Rattle.base.specs.Words.{has}
 use Rattle.base.proofs.Numbers.{every_at}
 use Rattle.image.specs.Limits.{max_program_bytes}
 use Rattle.image.specs.Instruction.{instructions_of, program_good}
+use Rattle.image.specs.Refusals.{passed as not_refused}
 use Rattle.image.specs.Image.{count_of, refusal_of, part_of, code_good}
 use Rattle.image.proofs.Laws.{accepted, part_short, part_whole}
 use Rattle.slot.specs.Layout.{state_word, detail_word, list_words}
@@ -12,10 +13,11 @@ use Rattle.slot.specs.Log.{Log, empty, loaded, with_read, with_store, log_of, Fi
 use Rattle.slot.proofs.Logs.{Room, read_fits, store_fits, read_room, store_room, empty_room, same_room, read_keeps, store_keeps, loads_agree}
 use Rattle.slot.proofs.Slots.{empty_fits, layout_state, layout_detail, layout_log}
 use Rattle.machine.specs.declared.Machine.{Machine}
+use Rattle.machine.specs.declared.FaultKind.TheVariants as fault
 use Rattle.machine.specs.declared.Run.{Run}
 use Rattle.machine.specs.declared.Run.TheVariants.{Finished, Rejected, Faulted}
 use Rattle.machine.specs.Asks.{Ask, halt, move, fetch, put, start, written, passed, ask_at}
-use Rattle.machine.specs.Runs.{Effect, stop, next, Judge, load_fault, outside, unfit, perform, seen, Outcome, ended, since, follow, run_from, run_by}
+use Rattle.machine.specs.Runs.{Effect, stop, next, Judge, outside, unfit, perform, seen, Outcome, ended, since, follow, run_from, run_by}
 use Rattle.machine.specs.Runs.{state_of_run, detail_of_run, kept, kept_by, slot_of, Runnable, log_after}
 use Rattle.machine.proofs.Asked.{Eight, ask_eight}
 
@@ -33,9 +35,9 @@ module _ (may : Judge) (t : List ℕ) (m : Machine) (l : Log) (P : Effect → Ty
   by_ask (fetch a c) stops moves loads stores = go (ltb c (length t)) refl
     where
       go : (b : Bool) → ltb c (length t) ≡ b
-          → P (cond b (next (written m a (loaded l c (get_or t c 0))) (with_read l c)) (stop (Faulted load_fault m.place) l))
+          → P (cond b (next (written m a (loaded l c (get_or t c 0))) (with_read l c)) (stop (Faulted fault.Load m.place) l))
       go true e = loads a c (ltb-true c (length t) e)
-      go false e = stops (Faulted load_fault m.place)
+      go false e = stops (Faulted fault.Load m.place)
   by_ask (put c v) stops moves loads stores = go (ltb c (length t)) refl
     where
       judged : c < length t → (b : Bool) → P (cond b (next (passed m) (with_store l c v)) (unfit m l))
@@ -145,10 +147,10 @@ module _ (may : Judge) (p t t' : List ℕ) (same : length t ≡ length t') where
   turn_same m l (move m') h = (refl, refl)
   turn_same m l (fetch a c) h = rw (← same) (go (ltb c (length t)) h)
     where
-      go : (b : Bool) → Agree (log_after (cond b (next (written m a (loaded l c (get_or t c 0))) (with_read l c)) (stop (Faulted load_fault m.place) l))).reads
+      go : (b : Bool) → Agree (log_after (cond b (next (written m a (loaded l c (get_or t c 0))) (with_read l c)) (stop (Faulted fault.Load m.place) l))).reads
           → (cond b (loaded l c (get_or t' c 0) ∷ []) [] ≡ cond b (loaded l c (get_or t c 0) ∷ []) [])
-          × (cond b (next (written m a (loaded l c (get_or t' c 0))) (with_read l c)) (stop (Faulted load_fault m.place) l)
-          ≡ cond b (next (written m a (loaded l c (get_or t c 0))) (with_read l c)) (stop (Faulted load_fault m.place) l))
+          × (cond b (next (written m a (loaded l c (get_or t' c 0))) (with_read l c)) (stop (Faulted fault.Load m.place) l)
+          ≡ cond b (next (written m a (loaded l c (get_or t c 0))) (with_read l c)) (stop (Faulted fault.Load m.place) l))
       go true g = let e = loads_agree l c (get_or t' c 0) (get_or t c 0) (λ q. sym (g c q)) in (rw e, rw e)
       go false g = (refl, refl)
   turn_same m l (put c v) h = (refl, rw (← same))
@@ -209,7 +211,7 @@ module _ (may : Judge) (p t : List ℕ) (short : length p ≤ max_program_bytes)
 -- ---- which programs can be run
 
 -- a program of an image that is not refused
-pub part_runnable : (image : List ℕ) → (refusal_of image).number ≡ 0 → (k : ℕ) → k < count_of image → Runnable (part_of image k)
+pub part_runnable : (image : List ℕ) → refusal_of image ≡ not_refused → (k : ℕ) → k < count_of image → Runnable (part_of image k)
 unfolding code_good
 part_runnable image e k h =
     let g = accepted image e in

@@ -1,7 +1,7 @@
 -- Document 01, "Instructions", tried by computation row by row of its table: what each operation makes of the eight registers and the place.
 -- Assumes nothing.
 use Rattle.std.proofs.Common.{◌≡◌, ℕ, List, [], ◌∷◌, ◌++◌, map, refl}
-use lib.ListN as lists
+use Rattle.std.proofs.Math.ListN as lists
 use Rattle.image.specs.Assembler.{Instruction, instruction, end, load, store, add, sub, skipless, skipequal, reject, program}
 use Rattle.machine.specs.declared.Machine.{Machine}
 use Rattle.machine.specs.declared.Run.TheVariants.{Finished, Rejected}

@@ -1,16 +1,17 @@
 -- What a turn gives in each case that the code tells apart. `r` is the number that the code has, and `c` the same as the definition says it.
 -- Assumes nothing.
-use Rattle.std.proofs.Common.{◌≡◌, ℕ, suc, ◌+◌, ◌-◌, ◌<◌, ◌≤◌, true, false, List, length, get_or, ap, ◌∙◌, arith, le-ltb, lt-ltb}
+use Rattle.std.proofs.Common.{◌≡◌, ℕ, ◌+◌, ◌<◌, ◌≤◌, true, false, Some, List, length, get_or, ap, ◌∙◌, le-ltb, lt-ltb}
 use Rattle.slot.specs.States.{waiting}
 use Rattle.slot.specs.Layout.{first_value}
-use Rattle.slot.specs.Log.{Log, empty, place_in, layout, log_of, loaded, with_read, with_store, Holds}
+use Rattle.slot.specs.Log.{Log, empty, place_in, found_place, layout, log_of, loaded, with_read, with_store, Holds}
 use Rattle.slot.proofs.Noted.{fresh_value, own_value, own_read}
 use Rattle.machine.specs.declared.Machine.{Machine}
 use Rattle.machine.specs.declared.Turned.{Turned}
+use Rattle.machine.specs.declared.FaultKind.TheVariants as fault
 use Rattle.machine.specs.declared.Run.{Run}
 use Rattle.machine.specs.declared.Run.TheVariants.{Faulted}
 use Rattle.machine.specs.Asks.{Ask, halt, move, written, passed}
-use Rattle.machine.specs.Runs.{Effect, stop, next, Judge, load_fault, outside, unfit, loading, storing, perform, Ready, Did, turned}
+use Rattle.machine.specs.Runs.{Effect, stop, next, Judge, outside, unfit, loading, storing, perform, Ready, Did, turned}
 
 -- ---- the cases of a load and of a store
 
@@ -22,7 +23,7 @@ module _ (t : List ℕ) (m : Machine) (l : Log) (r c : ℕ) (same : r ≡ c) whe
   pub load_fresh : (a : ℕ) → r < length t → place_in r l.cells ≡ 0 → loading t m l a c ≡ next (written m a (get_or t r 0)) (with_read l r)
   load_fresh a h e = load_within a h ∙ rw (fresh_value l r (get_or t r 0) e)
 
-  pub load_fault_lem : (a : ℕ) → length t ≤ r → loading t m l a c ≡ stop (Faulted load_fault m.place) l
+  pub load_fault_lem : (a : ℕ) → length t ≤ r → loading t m l a c ≡ stop (Faulted fault.Load m.place) l
   load_fault_lem a h = rw (← same, le-ltb r (length t) h)
 
   -- the same of the value that is stored: `w` is the code's, `v` the definition's
@@ -38,10 +39,8 @@ module _ (t : List ℕ) (m : Machine) (l : Log) (r c : ℕ) (same : r ≡ c) whe
 
 -- a cell that the run has stored
 pub load_own : (t : List ℕ) (m : Machine) (s : List ℕ) → Holds s → (r c : ℕ) → r ≡ c → (a : ℕ) → r < length t
-    → (k : ℕ) → k ≡ place_in r (log_of s).cells → (k ≡ 0 → ⊥)
-    → loading t m (log_of s) a c ≡ next (written m a (get_or s (first_value + k - 1) 0)) (log_of s)
-load_own t m s h r c same a u k e n =
-    load_within t m (log_of s) r c same a u ∙ rw (own_value s h r (get_or t r 0) k e n, own_read s h r k e n)
+    → (k : ℕ) → Some k ≡ found_place (place_in r (log_of s).cells) → loading t m (log_of s) a c ≡ next (written m a (get_or s (first_value + k) 0)) (log_of s)
+load_own t m s h r c same a u k e = load_within t m (log_of s) r c same a u ∙ rw (own_value s h r k e (get_or t r 0), own_read s h r k e)
 
 -- ---- a turn whose effect is known
 
@@ -68,7 +67,3 @@ module _ (may : Judge) (t : List ℕ) {m : Machine} {s : List ℕ} (h : Ready m 
 pub did_as : (may : Judge) (t : List ℕ) {m : Machine} (l : Log) {j k : Ask} {r : Turned} {slot : List ℕ} → k ≡ j
     → Did m (perform may t m l j) r slot → Did m (perform may t m l k) r slot
 did_as may t l e h = rw e h
-
--- at least n, and not n
-pub past : (n : ℕ) {o : ℕ} → n ≤ o → (o ≡ n → ⊥) → suc n ≤ o
-past n h e = omega arith

@@ -1,10 +1,6 @@
 -- Document 01 tried by computation on the slot's definitions, sentence by sentence: what "Instructions" says of reads and stores, and the slot and the
 -- states of "The work area". The numbers are literals. Assumes nothing.
-use Prim.Native.Nat.{ℕ, zero, suc}
-use mathlib.Core.Bool.{true, false}
-use mathlib.Core.List.{List, [], ◌∷◌, ◌++◌, map}
-use mathlib.Core.Path.{◌≡◌, refl}
-use lib.ListN.{replicate}
+use Rattle.std.proofs.Common.{ℕ, zero, suc, true, false, List, [], ◌∷◌, ◌++◌, map, ◌≡◌, refl, replicate}
 use Rattle.slot.specs.States.{waiting, gathered, rejected, faulted, committed, carried, last_state, is_end}
 use Rattle.slot.specs.Layout.{state_word, detail_word, read_count, store_count, list_words, first_read, first_store, first_value, slot_words}
 use Rattle.slot.specs.Log.{Log, empty, place_in, newest_in, loaded, with_read, with_store, layout, log_of}

@@ -1,5 +1,5 @@
 -- What a run has read and stored so far, by document 01, "Instructions", and the slot that holds it. Assumes nothing.
-use Rattle.std.specs.Prelude.{ℕ, zero, suc, ◌-◌, ◌≤◌, ◌<◌, ◌≡◌, Bool, true, cond, List, [], ◌∷◌, ◌++◌, length, get_or, set, replicate, eqb}
+use Rattle.std.specs.Prelude.{ℕ, zero, suc, ◌-◌, ◌≤◌, ◌<◌, ◌≡◌, Bool, true, cond, Option, Some, None, List, [], ◌∷◌, ◌++◌, length, get_or, set, replicate, eqb}
 use Rattle.base.specs.Words.{has, distinct, words}
 use Rattle.slot.specs.declared.ListKind.{ListKind}
 use Rattle.slot.specs.declared.ListKind.TheVariants.{Reads, Stores}
@@ -28,6 +28,11 @@ later (suc k) = suc (suc k)
 unfoldable pub place_in : ℕ → List ℕ → ℕ
 place_in c [] = 0
 place_in c (x ∷ xs) = cond (eqb c x) 1 (later (place_in c xs))
+
+-- the place itself, if c is in the list
+abbrev pub found_place : ℕ → Option ℕ
+found_place zero = None
+found_place (suc k) = Some k
 
 -- c once: at the end, unless it is there
 abbrev pub once_by : ℕ → ℕ → List ℕ → List ℕ
