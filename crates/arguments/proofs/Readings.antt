@@ -1,5 +1,5 @@
 -- Laws of an argument as a word of its kind: it is the number that was typed, every word can be typed, and it is short. Assumes nothing.
-use Rattle.std.proofs.Common.{◌≡◌, ℕ, zero, suc, ◌-◌, ◌^◌, ◌<◌, ◌≤◌, Bool, true, false, cond, eqb, ltb, leb, List, [], ◌∷◌, length, get_or, take, drop, ℤ, pos, negsuc, neg_ℤ, Result, Ok, Err, sym, refl, ap, ◌∙◌, subst, arith, length-drop, take_all, ltb-false, ltb-true, le-ltb, lt-ltb, ne_eqb, le-leb, leb-true}
+use Rattle.std.proofs.Common.{◌≡◌, ℕ, zero, suc, ◌-◌, ◌^◌, ◌<◌, ◌≤◌, Bool, true, false, cond, ltb, leb, List, [], ◌∷◌, length, drop, ℤ, pos, negsuc, neg_ℤ, Result, Ok, Err, refl, ap, ◌∙◌, subst, arith, length-drop, ltb-false, ltb-true, le-ltb, lt-ltb, ne_eqb, le-leb, leb-true}
 use lib.IntN.{sub_ℕ}
 use Rattle.text.specs.declared.Misread.{Misread}
 use Rattle.text.specs.declared.Misread.TheVariants as misread

@@ -1,9 +1,8 @@
 -- Laws of what is said of arguments: every line is short, and where nothing is said all is well. Assumes nothing.
-use Rattle.std.proofs.Common.{◌≡◌, ℕ, ◌+◌, ◌/◌, ◌%◌, ◌<◌, ◌≤◌, min, Bool, true, false, cond, eqb, leb, List, [], ◌∷◌, ◌++◌, length, map, take, Result, Ok, Err, refl, arith, length-append, length-take, eq-eqb, eqb-true, leb-true}
+use Rattle.std.proofs.Common.{◌≡◌, ℕ, ◌+◌, ◌/◌, ◌%◌, ◌<◌, ◌≤◌, min, Bool, true, false, cond, eqb, leb, List, [], ◌∷◌, length, take, Result, Ok, Err, refl, arith, length-append, length-take, eq-eqb, eqb-true, leb-true}
 use Rattle.std.proofs.lemmas.List.{length-map}
 use borrow.Author.Tests.{eqb-false}
 use Rattle.text.specs.Ascii.{ascii}
-use Rattle.text.specs.Decimal.{decimal}
 use Rattle.text.specs.Filled.{shown, filled}
 use Rattle.text.proofs.Decimals.{wide_short}
 use Rattle.text.proofs.Fillings.{filled_short}

@@ -157,7 +157,10 @@ fn put_many(page: &mut Page, kind: Kind, count: usize)
 {
     page.decimal(count as u64);
     put_noun(page, kind);
-    page.filled(b", and a table has at most #", &[most_arguments(kind) as u32]);
+    page.filled(
+        b", and a table has at most #",
+        &[most_arguments(kind) as u32],
+    );
 }
 
 // There is a low end without its high one.
