@@ -19,7 +19,6 @@ use Rattle.machine.specs.Runs.{Runnable, Ready, Did, Ends}
 use Rattle.machine.proofs.Named.{first_byte}
 use Rattle.machine.proofs.Asked.{ask_forward}
 use Rattle.machine.proofs.Laws.{by_ask, turn_fits}
-use Rattle.machine.proofs.Turns.{did_as}
 
 -- ---- a turn's answer tells the step
 
@@ -32,7 +31,8 @@ answer_next m (stop r l) e = cc
 answer_next m (next m' l) e = refl
 
 -- a turn that goes on goes forward
-turn_forward : (may : Judge) (p t : List ℕ) (m : Machine) (l : Log) (m' : Machine) (l' : Log) → perform may t m l (ask_at p m) ≡ next m' l' → m.place < m'.place
+turn_forward : (may : Judge) (p t : List ℕ) (m : Machine) (l : Log) (m' : Machine) (l' : Log) → perform may t m l (ask_at p m) ≡ next m' l'
+    → m.place < m'.place
 turn_forward may p t m l m' l' =
     by_ask may t m l (λ s. s ≡ next m' l' → m.place < m'.place) (ask_at p m) (λ r e. cc)
     (λ n q e. let r : n ≡ m' = cc in rw (← r) (moved n q)) (λ a c h e. onward _ _ e) (λ c v q h e. onward _ _ e)
@@ -67,7 +67,8 @@ pub record Going (may : Judge) (p t : List ℕ) (m : Machine) (slot : List ℕ) 
   pub same_log : (run_by may p t).log ≡ (run_from may fuel p t m log).log
   pub same_last : (run_by may p t).last ≡ (run_from may fuel p t m log).last
 
-pub going_start : {may : Judge} {p t : List ℕ} → Runnable p → {m : Machine} {slot : List ℕ} → m ≡ start → slot ≡ replicate slot_words 0 → Going may p t m slot
+pub going_start : {may : Judge} {p t : List ℕ} → Runnable p → {m : Machine} {slot : List ℕ} → m ≡ start → slot ≡ replicate slot_words 0
+    → Going may p t m slot
 unfolding run_by
 going_start {p} {t} runs at e =
     record {
@@ -153,7 +154,7 @@ module _ {may : Judge} {p t : List ℕ} {m : Machine} {slot : List ℕ} (runs : 
 
   module _ {r : Turned} {slot' : List ℕ} (u : m.place < instructions_of p) (d : Did m (perform may t m (log_of slot) (ask_read p m)) r slot') where
     did_is : Did m (perform may t m g.log (ask_at p m)) r slot'
-    did_is = rw log_is at (did_as may t (log_of slot) (ask_read_lem p m) d)
+    did_is = rw (log_is, ← ask_read_lem p m) at d
 
     abbrev taken : Effect
     taken = perform may t m g.log (ask_at p m)

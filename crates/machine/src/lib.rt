@@ -383,8 +383,8 @@ pub fn run_program(program: &[u8], table: &[u32], guards: &[u32], slot: &mut [u3
     run
 }
 
-// The store at which a program's run stopped, where it did: the cell and the value that the instruction at its end names. It runs the program again, in a slot
-// that is lent for it.
+// The store at which a program's run stopped, where it did: the cell and the value that the instruction at its end names. It runs the program again,
+// in a slot that is lent for it.
 #[tactic(auto, using(crate::proofs::Laws::last_registers))]
 pub fn last_store(program: &[u8], table: &[u32], guards: &[u32], slot: &mut [u32]) -> Store
     requires { CanRun program.now table.now guards.now slot.old }

@@ -128,8 +128,8 @@ module _ (s : List ℕ) (h : Holds s) where
       read_new none =
           let p : place_in c (log_of s).reads ≡ 0 = found_place_none _ r (read_found c r e) none in
           ap (λ (x : List ℕ). set (set x (first_read + get_or s read_count 0) c) read_count (get_or s read_count 0 + 1)) h.is
-          ∙ (push_read (log_of s) holds_sized c (first_read + get_or s read_count 0) (get_or s read_count 0 + 1) (omega (arith, reads_count, h.read_room))
-          (omega (arith, reads_count)) (omega (arith, reads_count))
+          ∙ (push_read (log_of s) holds_sized c (first_read + get_or s read_count 0) (get_or s read_count 0 + 1)
+          (omega (arith, reads_count, h.read_room)) (omega (arith, reads_count)) (omega (arith, reads_count))
           ∙ rw (read_is, once_new c (log_of s).reads p))
 
       pub read_old : is_some r ≡ true → s ≡ layout waiting 0 (with_read (log_of s) c)
@@ -143,9 +143,9 @@ module _ (s : List ℕ) (h : Holds s) where
   unfolding with_store
   store_new c v none =
       let e : place_in c (log_of s).cells ≡ 0 = found_place_none _ None none refl in
-      ap (λ (x : List ℕ). set (set (set x (first_store + get_or s store_count 0) c) (first_value + get_or s store_count 0) v) store_count (get_or s store_count 0 + 1))
-      h.is
-      ∙ (push_store (log_of s) holds_sized c v (first_store + get_or s store_count 0) (first_value + get_or s store_count 0) (get_or s store_count 0 + 1)
+      let n : ℕ = get_or s store_count 0 in
+      ap (λ (x : List ℕ). set (set (set x (first_store + n) c) (first_value + n) v) store_count (n + 1)) h.is
+      ∙ (push_store (log_of s) holds_sized c v (first_store + n) (first_value + n) (n + 1)
       (omega (arith, cells_count, h.store_room)) (omega (arith, cells_count)) (omega (arith, cells_count)) (omega (arith, cells_count))
       ∙ rw (once_new c (log_of s).cells e, e))
 
