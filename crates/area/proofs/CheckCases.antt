@@ -7,6 +7,7 @@ use mathlib.Core.List.{List, [], ◌∷◌, ◌++◌, map}
 use lib.ListN.{set, take, replicate}
 use Rattle.image.specs.Assembler.{instruction, program, image}
 use Rattle.image.specs.Bench.{empty}
+use Rattle.image.specs.Refusals.{told}
 use Rattle.guard.specs.Guards.{full_for}
 use Rattle.area.specs.Checks.{none_waits, all_ended, open_refusal, call_refusal, ended_refusal}
 use Rattle.area.specs.Sketch.{slot, area}
@@ -21,13 +22,13 @@ zeros n = replicate n 0
 
 -- the refusals' numbers: at opening, at the calls that follow, at those that come last; the guards are a pair for each cell
 abbrev at_opening : List ℕ → List ℕ → List ℕ → ℕ
-at_opening i t a = (open_refusal i t (full_for t) a).number
+at_opening i t a = (told (open_refusal i t (full_for t) a)).number
 
 abbrev at_call : List ℕ → List ℕ → List ℕ → ℕ
-at_call i t a = (call_refusal i t (full_for t) a).number
+at_call i t a = (told (call_refusal i t (full_for t) a)).number
 
 abbrev at_end : List ℕ → List ℕ → List ℕ → ℕ
-at_end i t a = (ended_refusal i t (full_for t) a).number
+at_end i t a = (told (ended_refusal i t (full_for t) a)).number
 
 -- ---- 5, "table of 0 or over 256 cells"
 
@@ -37,11 +38,11 @@ cells_0_1_256_257 = refl
 
 -- ---- 14, "guard list not T pairs": at every call, with 0, 3, 5, 6, 7 and 12 words of guards for 3 cells, whatever stands in them
 
-words_of_guards : map (λ w. (open_refusal two (zeros 3) (zeros w) (zeros 206)).number) (0 ∷ 3 ∷ 5 ∷ 6 ∷ 7 ∷ 12 ∷ []) ≡ 14 ∷ 14 ∷ 14 ∷ 0 ∷ 14 ∷ 14 ∷ []
+words_of_guards : map (λ w. (told (open_refusal two (zeros 3) (zeros w) (zeros 206))).number) (0 ∷ 3 ∷ 5 ∷ 6 ∷ 7 ∷ 12 ∷ []) ≡ 14 ∷ 14 ∷ 14 ∷ 0 ∷ 14 ∷ 14 ∷ []
 unfolding opened
 words_of_guards = refl
 
-guards_at_every_call : map (λ w. (call_refusal two (zeros 3) (zeros w) (zeros 206)).number ∷ (ended_refusal two (zeros 3) (zeros w) (zeros 206)).number ∷ []) (5 ∷ 6 ∷ 7 ∷ [])
+guards_at_every_call : map (λ w. (told (call_refusal two (zeros 3) (zeros w) (zeros 206))).number ∷ (told (ended_refusal two (zeros 3) (zeros w) (zeros 206))).number ∷ []) (5 ∷ 6 ∷ 7 ∷ [])
     ≡ (14 ∷ 14 ∷ []) ∷ (0 ∷ 9 ∷ []) ∷ (14 ∷ 14 ∷ []) ∷ []
 unfolding opened
 guards_at_every_call = refl
@@ -151,7 +152,7 @@ unfolding opened
 images_first = (refl, refl, refl)
 
 -- 14 "after 5": no cells, and guards for one. And before 6: a word of guards too few and a word of the area too many.
-around_14 : (open_refusal two [] (zeros 2) (zeros 200)).number ∷ (open_refusal two (zeros 3) (zeros 5) (zeros 207)).number ∷ [] ≡ 5 ∷ 14 ∷ []
+around_14 : (told (open_refusal two [] (zeros 2) (zeros 200))).number ∷ (told (open_refusal two (zeros 3) (zeros 5) (zeros 207))).number ∷ [] ≡ 5 ∷ 14 ∷ []
 unfolding opened
 around_14 = refl
 

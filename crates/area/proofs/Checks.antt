@@ -11,12 +11,11 @@ use Rattle.base.proofs.Bools.{and_both, both_and}
 use Rattle.base.proofs.Numbers.{every_at, every_from}
 use Rattle.base.proofs.Members.{has_get_or}
 use Rattle.image.specs.Limits.{max_programs, min_cells, max_cells}
-use Rattle.image.specs.Refusals as refusal
-use Rattle.image.specs.Refusals.{WellPlaced}
-use Rattle.image.specs.Image.{count_of, refusal_of}
-use Rattle.image.proofs.Laws.{accepted, refusal_well, few_programs_lem}
-use Rattle.image.proofs.Places.{plain_well}
-use Rattle.image.proofs.Refusing.{check_either, goes_on, none_fails, none_after, first_passes, number_of}
+use Rattle.image.specs.declared.refusals.Refusal.TheVariants as refusal
+use Rattle.image.specs.Refusals.{passed}
+use Rattle.image.specs.Image.{count_of, refusal_of, image_checks}
+use Rattle.image.proofs.Laws.{accepted, few_programs_lem}
+use Rattle.image.proofs.Refusing.{goes_on, none_fails, none_after, first_passes, given_passed, passed_given, checking}
 use Rattle.guard.specs.Guards.{guard_words, pairs_for}
 use Rattle.slot.specs.declared.ListKind.{ListKind}
 use Rattle.slot.specs.declared.ListKind.TheVariants.{Reads, Stores}
@@ -34,49 +33,44 @@ use Rattle.area.proofs.Views.{each_mark, slot_word, state_in_slot, count_in_slot
 
 -- ---- checks 1 to 6 with 14 among them, and 7
 
-pub few : (image : List ℕ) → (refusal_of image).number ≡ 0 → count_of image ≤ max_programs
+pub few : (image : List ℕ) → refusal_of image ≡ passed → count_of image ≤ max_programs
 few image e = few_programs_lem image (accepted image e).header
+
+pub few_cells : (t : List ℕ) → table_good t ≡ true → (min_cells ≤ length t) × (length t ≤ max_cells)
+unfolding table_good
+few_cells t e = let c = and_both (leb min_cells (length t)) (leb (length t) max_cells) e in (leb-true _ _ c.0, leb-true _ _ c.1)
 
 -- what 5, 14 and 6 show of table, guards and area, after 1 to 4
 pub record Room (image t g a : List ℕ) : Type 0 where
-  pub accepted : (refusal_of image).number ≡ 0
+  pub accepted : refusal_of image ≡ passed
   pub cells_some : 0 < length t
   pub cells_few : length t ≤ max_cells
   pub pairs : Paired t g
   pub sized : length a ≡ area_words (length t) (count_of image)
 
 module _ (image t g a : List ℕ) where
-  pub open_shows : (open_refusal image t g a).number ≡ 0 → Room image t g a
-  unfolding open_refusal room_refusal table_good pairs_for size_is
+  pub open_shows : open_refusal image t g a ≡ passed → Room image t g a
+  unfolding open_refusal room_refusal pairs_for size_is
   open_shows e =
-      let w = none_after (refusal_of image) _ e in
-      let s = none_fails (table_good t) refusal.table_size _ (λ z. omega arith) w.1 in
-      let p = none_fails (pairs_for (length t) g) refusal.guards _ (λ z. omega arith) s.1 in
-      let z = none_fails (size_is (length t) (count_of image) a) refusal.area_size _ (λ z. omega arith) p.1 in
-      let c = and_both (leb min_cells (length t)) (leb (length t) max_cells) s.0 in
+      let w = none_after (image_checks image) _ e in
+      let s = none_fails (table_good t) refusal.TableSize _ w.1 in
+      let p = none_fails (pairs_for (length t) g) refusal.Guards _ s.1 in
+      let z = none_fails (size_is (length t) (count_of image) a) refusal.AreaSize _ p.1 in
+      let c = few_cells t s.0 in
       record {
-        accepted = w.0;
-        cells_some = leb-true _ _ c.0;
-        cells_few = leb-true _ _ c.1;
+        accepted = passed_given refusal.Image (refusal_of image) w.0;
+        cells_some = c.0;
+        cells_few = c.1;
         pairs = eqb-true _ _ p.0;
         sized = eqb-true _ _ z.0;
       }
 
-  -- its place is meant
-  pub open_well : WellPlaced (open_refusal image t g a)
-  unfolding open_refusal room_refusal
-  open_well =
-      check_either WellPlaced _ (refusal_well image)
-      (check_either WellPlaced (table_good t) (plain_well 5)
-      (check_either WellPlaced (pairs_for (length t) g) (plain_well 14)
-      (check_either WellPlaced (size_is (length t) (count_of image) a) (plain_well 6) (plain_well 0))))
-
   -- no refusal is exactly what `Checked` and `Paired` say
-  pub checked : (call_refusal image t g a).number ≡ 0 → Checked image t a
+  pub checked : call_refusal image t g a ≡ passed → Checked image t a
   unfolding call_refusal
   checked e =
       let w = none_after (open_refusal image t g a) _ e in
-      let words = none_fails (words_good (length t) (count_of image) a) refusal.area _ (λ z. omega arith) w.1 in
+      let words = none_fails (words_good (length t) (count_of image) a) refusal.Area _ w.1 in
       let r = open_shows w.0 in
       record {
         accepted = r.accepted;
@@ -87,21 +81,21 @@ module _ (image t g a : List ℕ) where
         good = words.0;
       }
 
-  pub paired : (call_refusal image t g a).number ≡ 0 → Paired t g
+  pub paired : call_refusal image t g a ≡ passed → Paired t g
   unfolding call_refusal
   paired e = (open_shows (none_after (open_refusal image t g a) _ e).0).pairs
 
-  open_is : Checked image t a → Paired t g → (open_refusal image t g a).number ≡ 0
+  open_is : Checked image t a → Paired t g → open_refusal image t g a ≡ passed
   unfolding open_refusal room_refusal table_good pairs_for size_is
   open_is c p =
-      number_of (sym (first_passes refl c.accepted
+      sym (first_passes refl (given_passed refusal.Image c.accepted)
       (goes_on _ (both_and (le-leb min_cells (length t) c.cells_some) (le-leb (length t) max_cells c.cells_few))
       (goes_on _ (eq-eqb (length g) (guard_words (length t)) p)
-      (goes_on _ (eq-eqb (length a) (area_words (length t) (count_of image)) c.sized) refl)))))
+      (goes_on _ (eq-eqb (length a) (area_words (length t) (count_of image)) c.sized) refl))))
 
-  pub checked_is : Checked image t a → Paired t g → (call_refusal image t g a).number ≡ 0
+  pub checked_is : Checked image t a → Paired t g → call_refusal image t g a ≡ passed
   unfolding call_refusal
-  checked_is c p = number_of (sym (first_passes refl (open_is c p) (goes_on _ c.good refl)))
+  checked_is c p = sym (first_passes refl (open_is c p) (goes_on _ c.good refl))
 
 -- ---- check 7, in plain facts
 
@@ -212,7 +206,7 @@ module _ (T n : ℕ) (a : List ℕ) where
 -- ---- what the checks 1 to 7 show of the area and of a program
 
 -- of an area that has passed checks 1 to 6, or 1 to 7
-pub room_measured : (image t g a : List ℕ) → (open_refusal image t g a).number ≡ 0 → (n : ℕ) → n ≡ count_of image → Measured (length t) n a
+pub room_measured : (image t g a : List ℕ) → open_refusal image t g a ≡ passed → (n : ℕ) → n ≡ count_of image → Measured (length t) n a
 room_measured image t g a e n q =
     let r = open_shows image t g a e in
     record { cells_few = r.cells_few; programs_few = omega (arith, few image r.accepted); sized = rw q r.sized }
@@ -233,3 +227,10 @@ module _ (image t a : List ℕ) (c : Checked image t a) where
 
   pub program_slotted : (k : ℕ) → k < count_of image → Slotted (length t) k a
   program_slotted k l = slotted (length t) k a (checked_passed.slots k l) (program_lies k l)
+
+-- how the calls go that check: check by check, and what those before have shown
+pub ruleset room_by_check = (checking, few_cells)
+
+pub ruleset open_by_check = (checking, few)
+
+pub ruleset words_by_check = (checking, room_measured, measured, checked)

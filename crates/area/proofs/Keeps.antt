@@ -9,6 +9,7 @@ use lib.ListN.{length, get_or, set, replicate, length-replicate}
 use lib.Seq.{get_or-set_same, get_or-set_other, set_out}
 use Rattle.base.specs.Words.{has, words}
 use Rattle.base.proofs.Parts.{words_agree}
+use Rattle.image.specs.Refusals.{passed}
 use Rattle.image.specs.Image.{count_of}
 use Rattle.slot.specs.States.{last_state}
 use Rattle.slot.specs.Layout.{state_word, detail_word, count_word, first_word, slot_words}
@@ -150,7 +151,7 @@ checked_table image t u a c e =
     }
 
 -- an area that opening has set to 0
-pub checked_open : (image t g a : List ℕ) → (open_refusal image t g a).number ≡ 0 → Checked image t (replicate (length a) 0)
+pub checked_open : (image t g a : List ℕ) → open_refusal image t g a ≡ passed → Checked image t (replicate (length a) 0)
 checked_open image t g a e =
     let r = open_shows image t g a e in
     record {

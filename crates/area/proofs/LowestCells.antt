@@ -1,6 +1,6 @@
 -- The search for the lowest cell that shows a dependency: a turn of it, and that it finds one exactly where there is one. Assumes nothing.
 use Prim.Native.Nat.{ℕ, ◌+◌, ◌≤◌, ◌<◌}
-use mathlib.Core.Path.{◌≡◌, refl, sym, subst, ◌∙◌}
+use mathlib.Core.Path.{◌≡◌, refl, sym}
 use mathlib.Core.Logic.{◌⊎◌, inl, inr}
 use mathlib.Core.Bool.{Bool, true, false, cond, ◌&&◌}
 use mathlib.Core.List.{List}
@@ -9,19 +9,18 @@ use lib.Dec.{ltb}
 use lib.ListN.{length, get_or}
 use borrow.Author.Tests.{ltb-true, ltb-false, lt-ltb}
 use Rattle.base.specs.Words.{has, words}
-use Rattle.base.proofs.Bools.{clash, and_both, both_and, same_test}
+use Rattle.std.specs.Prelude.{Some, None}
+use Rattle.base.proofs.Bools.{known, clash, and_both, both_and, same_test}
 use Rattle.base.proofs.Leasts.{Smallest, least_smallest, is_least}
 use Rattle.base.proofs.Members.{has_get_or}
-use Rattle.base.proofs.Numbers.{below}
+use Rattle.base.proofs.Numbers as numbers
 use Rattle.base.proofs.Parts.{words_length, words_at, words_has}
 use Rattle.slot.specs.declared.ListKind.{ListKind}
 use Rattle.area.specs.declared.MarkKind.{MarkKind}
-use Rattle.area.specs.declared.Span.{Span}
-use Rattle.area.specs.Layout.{marks_at, count_at, list_at, span_of, list_of}
-use Rattle.area.specs.Marks.{earlier, depends, shows, lowest_of, lower_cell, lowest}
-use Rattle.area.specs.Checks.{Slotted, Searched}
+use Rattle.area.specs.Layout.{marks_at, count_at, list_at, list_of}
+use Rattle.area.specs.Marks.{earlier, depends, shows, lowest_of, lower_cell, lowest, below}
+use Rattle.area.specs.Checks.{Slotted}
 use Rattle.area.proofs.Marks.{earlier_is, is_earlier, hit_in, hit_out}
-use Rattle.area.proofs.Places.{by_span, names_list}
 
 -- ---- the cells that have been passed
 
@@ -38,7 +37,7 @@ module _ (at i : ℕ) (a : List ℕ) (lies : at + i < length a) where
   older c h = let w = words_has at i a c h in rw w.2 at (has_word at (i + 1) a (omega arith) w.0 (omega (arith, w.1)))
 
   either : (c : ℕ) → has c (words at (i + 1) a) ≡ true → (c ≡ get_or a (at + i) 0) ⊎ (has c (words at i a) ≡ true)
-  either c h = let w = words_has at (i + 1) a c h in go w.0 w.2 (below w.0 i (omega (arith, w.1)))
+  either c h = let w = words_has at (i + 1) a c h in go w.0 w.2 (numbers.below w.0 i (omega (arith, w.1)))
     where
       go : (j : ℕ) → get_or a (at + j) 0 ≡ c → (j ≡ i) ⊎ (j < i) → (c ≡ get_or a (at + i) 0) ⊎ (has c (words at i a) ≡ true)
       go j e (inl q) = inl (rw q at (sym e))
@@ -48,25 +47,23 @@ module _ (at i : ℕ) (a : List ℕ) (lies : at + i < length a) where
 
 module _ (T marks at k : ℕ) (a : List ℕ) where
   -- nothing has been looked at
-  pub lowest_start : T ≡ lowest_of T marks (words at 0 a) k a
+  pub lowest_none : lowest_of T marks (words at 0 a) k a ≡ T
   unfolding lowest_of shows words has
-  lowest_start = is_least _ T T (record { within = omega arith; passes = λ l. absurd (omega arith); low = λ i l e. clash e refl })
+  lowest_none = sym (is_least _ T T (record { within = omega arith; passes = λ l. absurd (omega arith); low = λ i l e. clash e refl }))
 
-  module _ (count : ℕ) (s : Searched T marks at count a) (i : ℕ) (l : i < count) where
+  module _ (i : ℕ) (lies : at + i < length a) (inside : get_or a (at + i) 0 < T) where
     abbrev cell : ℕ
     cell = get_or a (at + i) 0
+
+    abbrev found : ℕ
+    found = lowest_of T marks (words at i a) k a
 
     abbrev named_earlier : ℕ → Bool
     named_earlier c = earlier (get_or a (marks + c) 0) k
 
-    lies : at + i < length a
-    lies = omega (arith, s.names.lies)
-
-    pub lowest_next : (found next : ℕ) → found ≡ lowest_of T marks (words at i a) k a → next ≡ lower_cell marks k a found cell
-        → next ≡ lowest_of T marks (words at (i + 1) a) k a
+    pub lowest_more : lowest_of T marks (words at (i + 1) a) k a ≡ lower_cell marks k a (lowest_of T marks (words at i a) k a) (get_or a (at + i) 0)
     unfolding lowest_of shows lower_cell
-    lowest_next found next e f =
-        f ∙ is_least _ T _ (go (ltb cell found) (named_earlier cell) refl refl (subst (λ (v : ℕ). Smallest (λ c. has c (words at i a) && named_earlier c) T v) (sym e) (least_smallest _ T)))
+    lowest_more = sym (is_least _ T _ (go (ltb cell found) (named_earlier cell) refl refl (least_smallest _ T)))
       where
         -- the newest cell is not lower, or does not count
         stays : (named_earlier cell ≡ true → found ≤ cell) → Smallest (λ c. has c (words at i a) && named_earlier c) T found
@@ -86,7 +83,7 @@ module _ (T marks at k : ℕ) (a : List ℕ) where
             → Smallest (λ c. has c (words at (i + 1) a) && named_earlier c) T (cond (b && q) cell found)
         go true true x y p =
             record {
-              within = let h = s.in_table i l in omega arith;
+              within = omega arith;
               passes = λ _. both_and (newest at i a lies) y;
               low = λ c h t. let w = and_both (has c (words at (i + 1) a)) _ t in under c h w.1 (either at i a lies c w.0);
             }
@@ -134,16 +131,20 @@ module _ (l : ListKind) (m : MarkKind) (T k : ℕ) (a : List ℕ) where
             let w = lowest_shows (ltb-true (lowest l m T k a) T e) in
             hit_in (marks_at m T) (list_of l T k a) k a (lowest l m T k a) w.0 (is_earlier _ k w.1 w.2)
 
--- ---- as the code finds it: p is where the list lies, `marks` where its marks begin
+-- ---- as a call answers it
 
-module _ (l : ListKind) (m : MarkKind) (T k : ℕ) (a : List ℕ) (p : Span) (e : p ≡ span_of l T k a) (marks : ℕ) (f : marks ≡ marks_at m T) where
-  pub search_list : Slotted T k a → Searched T marks p.at p.count a
-  search_list s =
-      record {
-        names = names_list T k a l p e s m marks f;
-        in_table = subst (λ (x : Span). (i : ℕ) → i < x.count → get_or a (x.at + i) 0 < T) (sym e) (s.inside l);
-      }
+-- the answer is a cell: it is the lowest, and the program depends on it
+pub below_some : {T v c : ℕ} → below T v ≡ Some c → (v ≡ c) × (v < T)
+below_some {T} {v} {c} e = go (known (ltb v T))
+  where
+    go : (ltb v T ≡ true) ⊎ (ltb v T ≡ false) → (v ≡ c) × (v < T)
+    go (inl t) = let f : Some v ≡ Some c = rw t at e in (cc, ltb-true v T t)
+    go (inr t) = let f : None ≡ Some c = rw t at e in absurd (cc)
 
-  pub search_finds : (v : ℕ) → v ≡ lowest_of T marks (words p.at p.count a) k a → v ≡ lowest l m T k a
-  unfolding lowest
-  search_finds v g = by_span T k a l p e (λ x cs. lowest_of T x cs k a) marks (marks_at m T) f v g
+-- there is none
+pub below_none : {T v : ℕ} → below T v ≡ None → T ≤ v
+below_none {T} {v} e = go (known (ltb v T))
+  where
+    go : (ltb v T ≡ true) ⊎ (ltb v T ≡ false) → T ≤ v
+    go (inl t) = let f : Some v ≡ None = rw t at e in absurd (cc)
+    go (inr t) = ltb-false v T t

@@ -77,40 +77,31 @@ pub fn span_of(area: &[u32], cells: usize, number: usize, list: slot::ListKind) 
 }
 
 // A mark that is 0 or larger becomes k.
+#[tactic(auto, unfolding(crate::specs::Marks::lower))]
 fn lowered(m: u32, k: u32) -> u32
     ensures { result ≡ lower m k }
 {
-    if m == 0 {
-        return k;
-    }
-    if k < m {
-        return k;
-    }
-    m
+    if m == 0 || k < m { k } else { m }
 }
 
 // The program reserves each cell of the list of count words at a place, in the marks that begin at `marks`.
+#[tactic(auto, using(crate::proofs::Loops::reserve_none))]
 fn reserve_cells(area: &mut [u32], marks: usize, at: usize, count: usize, number: usize)
     requires { Names marks at count area.old × (number < max_programs) }
     ensures { area.new ≡ reserve marks (words at count area.old) number area.old }
 {
-    let mut i = 0;
-    while i < count {
-        let c = area[at + i] as usize;
-        let m = area[marks + c];
-        area[marks + c] = lowered(m, (number + 1) as u32);
-        i += 1;
+    for i in 0..count {
+        let mark = marks + area[at + i] as usize;
+        area[mark] = lowered(area[mark], (number + 1) as u32);
     }
 }
 
 // Whether a mark names a program earlier than number.
+#[tactic(auto, unfolding(crate::specs::Marks::earlier))]
 fn earlier(m: u32, number: usize) -> bool
     ensures { result ≡ earlier m number }
 {
-    if m == 0 {
-        return false;
-    }
-    m as usize <= number
+    m != 0 && m as usize <= number
 }
 
 // The program that a mark names.
@@ -122,20 +113,20 @@ pub fn named(m: u32) -> u32
 }
 
 // The lower of two cells, the second of which counts if its mark names an earlier program.
+#[tactic(auto, unfolding(crate::specs::Marks::lower_cell))]
 fn lower_cell(area: &[u32], marks: usize, number: usize, found: usize, cell: usize) -> usize
     requires { marks + cell < length area.now }
     ensures { result ≡ lower_cell marks number area.now found cell }
 {
-    if found <= cell {
-        return found;
+    if cell < found && earlier(area[marks + cell], number) {
+        cell
+    } else {
+        found
     }
-    if !earlier(area[marks + cell], number) {
-        return found;
-    }
-    cell
 }
 
 // The lowest cell of the list whose mark names an earlier program; `cells` where there is none.
+#[tactic(auto, using(crate::proofs::LowestCells::lowest_none))]
 fn lowest_of(
     area: &[u32],
     cells: usize,
@@ -148,27 +139,26 @@ fn lowest_of(
     ensures { result ≡ lowest_of cells marks (words at count area.now) number area.now }
 {
     let mut found = cells;
-    for i in 0..count {
-        let cell = area[at + i] as usize;
-        found = lower_cell(area, marks, number, found, cell);
+    for cell in &area[at..at + count] {
+        found = lower_cell(area, marks, number, found, *cell as usize);
     }
     found
 }
 
 // The stores of the list go into the table.
+#[tactic(auto, using(crate::proofs::Loops::store_none))]
 fn store_all(table: &mut [u32], area: &[u32], cells: usize, values: usize, count: usize)
     requires { Storing cells values count area.now table.old }
     ensures { table.new ≡ stored_by cells values count area.now table.old }
 {
-    let mut i = 0;
-    while i < count {
-        let c = area[cells + i] as usize;
-        table[c] = area[values + i];
-        i += 1;
+    let stored = area[cells..cells + count].iter();
+    for (cell, value) in stored.zip(&area[values..values + count]) {
+        table[*cell as usize] = *value;
     }
 }
 
 // The lowest cell of the program's list of a kind whose mark of a kind names an earlier program, where there is one.
+#[tactic(auto, unfolding(crate::specs::Layout::list_of, crate::specs::Marks::lowest))]
 pub fn lowest(
     area: &[u32],
     cells: usize,
@@ -186,6 +176,7 @@ pub fn lowest(
 }
 
 // The program reserves the cells of its list of a kind in the marks of a kind.
+#[tactic(auto, unfolding(crate::specs::Layout::list_of))]
 pub fn reserve(area: &mut [u32], cells: usize, number: usize, list: slot::ListKind, marks: MarkKind)
     requires { Slotted cells number area.old }
     ensures { area.new ≡ reserve (marks_at marks cells) (list_of list cells number area.old) number area.old }
@@ -195,6 +186,7 @@ pub fn reserve(area: &mut [u32], cells: usize, number: usize, list: slot::ListKi
 }
 
 // The program's stores go into the table.
+#[tactic(auto, using(crate::proofs::Places::stores_list), unfolding(crate::specs::Layout::list_of, crate::specs::Layout::values_of))]
 pub fn commit(table: &mut [u32], area: &[u32], number: usize)
     requires { Slotted (length table.old) number area.now }
     ensures { table.new ≡ committed_table (length table.old) number area.now table.old }
@@ -205,6 +197,7 @@ pub fn commit(table: &mut [u32], area: &[u32], number: usize)
 }
 
 // The program's state and detail are these.
+#[tactic(auto, unfolding(crate::specs::Layout::with_state))]
 pub fn write_state(area: &mut [u32], cells: usize, number: usize, state: u32, detail: u32)
     requires { HasSlot cells number area.old }
     ensures { area.new ≡ with_state cells number state detail area.old }
@@ -215,6 +208,7 @@ pub fn write_state(area: &mut [u32], cells: usize, number: usize, state: u32, de
 }
 
 // The program's state.
+#[tactic(auto, unfolding(crate::specs::Layout::state_of))]
 pub fn state(area: &[u32], cells: usize, number: usize) -> u32
     requires { HasSlot cells number area.now }
     ensures { result ≡ state_of cells number area.now }
@@ -224,6 +218,7 @@ pub fn state(area: &[u32], cells: usize, number: usize) -> u32
 }
 
 // The program's detail.
+#[tactic(auto, unfolding(crate::specs::Layout::detail_of))]
 pub fn detail(area: &[u32], cells: usize, number: usize) -> u32
     requires { HasSlot cells number area.now }
     ensures { result ≡ detail_of cells number area.now }
@@ -233,6 +228,7 @@ pub fn detail(area: &[u32], cells: usize, number: usize) -> u32
 }
 
 // Whether none of n programs has a state below this one.
+#[tactic(auto, using(base::proofs::Numbers::every_none, base::proofs::Numbers::every_more), unfolding(crate::specs::Checks::states_from))]
 pub fn states_from(area: &[u32], cells: usize, n: usize, least: u32) -> bool
     requires { Measured cells n area.now }
     ensures { result ≡ states_from least cells n area.now }
@@ -246,6 +242,7 @@ pub fn states_from(area: &[u32], cells: usize, n: usize, least: u32) -> bool
 }
 
 // The programs of a group, a bit each.
+#[tactic(auto, using(base::proofs::Masks::mask_lt, base::proofs::Masks::mask_next), unfolding(crate::specs::Layout::in_group))]
 pub fn members(area: &[u32], cells: usize, n: usize, group: slot::Group) -> u64
     requires { Measured cells n area.now }
     ensures { result ≡ mask_of (in_group group cells area.now) n }
@@ -259,13 +256,11 @@ pub fn members(area: &[u32], cells: usize, n: usize, group: slot::Group) -> u64
 }
 
 // Check 5.
+#[tactic(auto, unfolding(crate::specs::Checks::table_good))]
 fn table_good(table: &[u32]) -> bool
     ensures { result ≡ table_good table.now }
 {
-    if table.len() < image::Image::LEAST_CELLS {
-        return false;
-    }
-    table.len() <= image::Image::CELLS
+    (image::Image::LEAST_CELLS..=image::Image::CELLS).contains(&table.len())
 }
 
 // Whether each of count words from a place on is below a bound.
@@ -273,41 +268,32 @@ fn all_below(area: &[u32], bound: u32, at: usize, count: usize) -> bool
     requires { at + count ≤ length area.now }
     ensures { result ≡ all_below bound at count area.now }
 {
-    for i in 0..count {
-        if bound <= area[at + i] {
-            return false;
-        }
-    }
-    true
+    area[at..at + count].iter().all(|word| *word < bound)
 }
 
 // Check 7 of a list of slot k: its count, and the cells that it counts.
+#[tactic(auto, unfolding(crate::specs::Checks::list_good))]
 fn list_good(area: &[u32], cells: usize, k: usize, list: slot::ListKind) -> bool
     requires { HasSlot cells k area.now }
     ensures { result ≡ list_good list cells k area.now }
 {
     let s = span_of(area, cells, k, list);
-    if slot::LIST < s.count {
-        return false;
-    }
-    all_below(area, cells as u32, s.at, s.count)
+    s.count <= slot::LIST && all_below(area, cells as u32, s.at, s.count)
 }
 
 // Check 7 of slot k.
+#[tactic(auto, unfolding(crate::specs::Checks::slot_good))]
 fn slot_good(area: &[u32], cells: usize, k: usize) -> bool
     requires { HasSlot cells k area.now }
     ensures { result ≡ slot_good cells k area.now }
 {
-    if slot::LAST_STATE < state(area, cells, k) {
-        return false;
-    }
-    if !list_good(area, cells, k, slot::ListKind::Reads) {
-        return false;
-    }
-    list_good(area, cells, k, slot::ListKind::Stores)
+    state(area, cells, k) <= slot::LAST_STATE
+        && list_good(area, cells, k, slot::ListKind::Reads)
+        && list_good(area, cells, k, slot::ListKind::Stores)
 }
 
 // And of every slot.
+#[tactic(auto, using(base::proofs::Numbers::every_none, base::proofs::Numbers::every_more), unfolding(crate::specs::Checks::slots_good))]
 fn slots_good(area: &[u32], cells: usize, n: usize) -> bool
     requires { Measured cells n area.now }
     ensures { result ≡ slots_good cells n area.now }
@@ -321,21 +307,19 @@ fn slots_good(area: &[u32], cells: usize, n: usize) -> bool
 }
 
 // Check 7.
+#[tactic(auto, unfolding(crate::specs::Checks::words_good))]
 fn words_good(area: &[u32], cells: usize, n: usize) -> bool
     requires { Measured cells n area.now }
     ensures { result ≡ words_good cells n area.now }
 {
     let over = n as u32 + 1;
-    if !all_below(area, over, marks_start(MarkKind::Write, cells), cells) {
-        return false;
-    }
-    if !all_below(area, over, marks_start(MarkKind::Read, cells), cells) {
-        return false;
-    }
-    slots_good(area, cells, n)
+    all_below(area, over, marks_start(MarkKind::Write, cells), cells)
+        && all_below(area, over, marks_start(MarkKind::Read, cells), cells)
+        && slots_good(area, cells, n)
 }
 
 // Checks 5, 14 and 6, for n programs.
+#[tactic(auto, using(crate::proofs::Checks::room_by_check), unfolding(crate::specs::Checks::room_refusal, crate::specs::Checks::size_is))]
 fn room_refusal(n: usize, table: &[u32], guards: &[u32], area: &[u32]) -> Result<(), Refusal>
     requires { n ≤ max_programs }
     ensures { result ≡ room_refusal n table.now guards.now area.now }
@@ -353,6 +337,7 @@ fn room_refusal(n: usize, table: &[u32], guards: &[u32], area: &[u32]) -> Result
 }
 
 // Checks 1 to 5, 14, 6. The caller makes 1 to 4 first and hands over what they said, so that their stack does not come on top of this one's.
+#[tactic(auto, using(crate::proofs::Checks::open_by_check), unfolding(crate::specs::Checks::open_refusal))]
 pub fn open_refusal(
     checked: Result<(), ImageRefusal>,
     image: &[u8],
@@ -368,6 +353,7 @@ pub fn open_refusal(
 }
 
 // Checks 1 to 5, 14, 6, 7, after the same four.
+#[tactic(auto, using(crate::proofs::Checks::words_by_check), unfolding(crate::specs::Checks::call_refusal))]
 pub fn call_refusal(
     checked: Result<(), ImageRefusal>,
     image: &[u8],
@@ -386,6 +372,7 @@ pub fn call_refusal(
 }
 
 // The same, and 9 as the listed order and the next image make it.
+#[tactic(auto, using(crate::proofs::Checks::words_by_check), unfolding(crate::specs::Checks::ended_refusal))]
 pub fn ended_refusal(
     image: &[u8],
     table: &[u32],

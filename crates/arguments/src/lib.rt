@@ -2,15 +2,17 @@
 // bytes. All that differs between the two programs is told by the kind of their arguments.
 #![tactic(auto)]
 
-ghost use Rattle.std.specs.Prelude.{◌≡◌, ◌<◌, ◌≤◌, min, length, replicate, ◌==◌, slice_index};
+ghost use Rattle.std.specs.Prelude.{◌≡◌, ◌<◌, ◌≤◌, length, map, ◌==◌, slice_index};
 ghost use Rattle.text.specs.Decimal.{numeral};
-ghost use Rattle.text.specs.Filled.{texts};
-ghost use Rattle.text.specs.Writing.{PageSays, Wrote, Room};
+ghost use Rattle.text.specs.Writing.{PageSays};
+ghost use Rattle.text.specs.Paper.{Put, Fits};
 ghost use Rattle.guard.specs.Signed.{lowest};
 ghost use Rattle.arguments.specs.Kinds.{per_cell, most_arguments, largest};
 ghost use Rattle.arguments.specs.Readings.{minus, negative, negated, upwards, downwards, reading};
-ghost use Rattle.arguments.specs.Words.{none_words, noun, counted, many_words, odd_words, whole_cells, count_words};
-ghost use Rattle.arguments.specs.Words.{shown_byte, byte_of, most_shown, shown_word, about, over_words, under_words, no_number_words, most_words, ArgumentSays};
+ghost use Rattle.arguments.specs.Words.{none_words, noun, many_words, odd_words, whole_cells, count_words};
+ghost use Rattle.arguments.specs.Words.{shown_byte, shown_word, no_word_text, no_word_words, most_words, ArgumentSays};
+
+use text::{Misread, Page};
 
 // What the arguments are: the cells of a table, or the ends of its guards, low and high of each cell in turn.
 #[derive(Clone, Copy)]
@@ -48,25 +50,22 @@ fn largest(kind: Kind) -> u32
 
 // ---- an argument as a word
 
-// What an argument is: a word, a number that is too large or too small, or no number.
-#[derive(Clone, Copy)]
-pub enum Reading {
-    Word(u32),
+// Why an argument is no word of its kind: a number that is too large or too small, or no number.
+#[derive(Clone, Copy, PartialEq, Eq)]
+pub enum NoWord {
     Over,
     Under,
-    NoWord,
+    NoNumber,
 }
 
 fn minus_first(word: &[u8]) -> bool
     ensures { result ≡ (slice_index word.now 0 == minus) }
 {
-    if word.len() == 0 {
-        return false;
-    }
-    word[0] == b'-'
+    word.first() == Some(&b'-')
 }
 
 // Whether a minus stands before the number.
+#[tactic(auto, unfolding(crate::specs::Readings::negative))]
 fn negative(kind: Kind, word: &[u8]) -> bool
     ensures { result ≡ negative kind word.now }
 {
@@ -80,33 +79,36 @@ fn negative(kind: Kind, word: &[u8]) -> bool
 fn negated(n: u32) -> u32
     ensures { result ≡ negated n }
 {
-    std::num::wrapping_sub_u32(0, n)
+    n.wrapping_neg()
 }
 
 // A number as a word.
-fn upwards(word: &[u8], largest: u32) -> Reading
+#[tactic(auto, unfolding(crate::specs::Readings::upwards))]
+fn upwards(word: &[u8], largest: u32) -> Result<u32, NoWord>
     ensures { result ≡ upwards (numeral largest word.now) }
 {
     match text::number_of(word, largest) {
-        text::Numeral::Number(n) => Reading::Word(n),
-        text::Numeral::TooLarge => Reading::Over,
-        text::Numeral::NoNumber => Reading::NoWord,
+        Ok(n) => Ok(n),
+        Err(Misread::TooLarge) => Err(NoWord::Over),
+        Err(Misread::NoNumber) => Err(NoWord::NoNumber),
     }
 }
 
 // The number behind a minus as a word.
-fn downwards(word: &[u8]) -> Reading
+#[tactic(auto, unfolding(crate::specs::Readings::downwards))]
+fn downwards(word: &[u8]) -> Result<u32, NoWord>
     ensures { result ≡ downwards (numeral lowest word.now) }
 {
     match text::number_of(word, guard::LOWEST) {
-        text::Numeral::Number(n) => Reading::Word(negated(n)),
-        text::Numeral::TooLarge => Reading::Under,
-        text::Numeral::NoNumber => Reading::NoWord,
+        Ok(n) => Ok(negated(n)),
+        Err(Misread::TooLarge) => Err(NoWord::Under),
+        Err(Misread::NoNumber) => Err(NoWord::NoNumber),
     }
 }
 
 // An argument as a word of its kind.
-fn read(kind: Kind, word: &[u8]) -> Reading
+#[tactic(auto, unfolding(crate::specs::Readings::reading, crate::specs::Readings::negative))]
+fn read(kind: Kind, word: &[u8]) -> Result<u32, NoWord>
     ensures { result ≡ reading kind word.now }
 {
     if negative(kind, word) {
@@ -117,81 +119,64 @@ fn read(kind: Kind, word: &[u8]) -> Reading
 
 // ---- what is said of how many there are
 
-// Room for the words.
-const MOST: usize = 100;
-
-pub fn room() -> [u8; MOST]
-    ensures { (most_words ≡ length result) × (result ≡ replicate most_words 0) }
-{
-    [0; MOST]
-}
+// The most bytes of the words.
+pub const MOST: usize = 100;
 
 // There is none.
-fn put_none(kind: Kind, out: &mut [u8]) -> usize
-    requires { most_words ≤ length out.old }
-    ensures { PageSays (none_words kind) out.old result out.new }
+#[tactic(auto, unfolding(crate::specs::Words::none_words))]
+fn put_none(page: &mut Page, kind: Kind)
+    requires { Fits page.old (none_words kind) }
+    ensures { Put page.old (none_words kind) page.new }
 {
     let numbers = [image::Image::LEAST_CELLS as u32, image::Image::CELLS as u32];
     match kind {
-        Kind::Cells => text::put_filled(
-            out,
-            0,
-            b"give the table's cells, # to # numbers",
-            &numbers[..],
-        ),
-        Kind::Ends => text::put_filled(
-            out,
-            0,
+        Kind::Cells => page.filled(b"give the table's cells, # to # numbers", &numbers),
+        Kind::Ends => page.filled(
             b"give the low end and the high end of each cell, # to # pairs",
-            &numbers[..],
+            &numbers,
         ),
     }
 }
 
-fn put_noun(kind: Kind, out: &mut [u8], at: usize) -> usize
-    requires { Room out.old at (noun kind) }
-    ensures { Wrote out.old at (noun kind) out.new result }
+#[tactic(auto, unfolding(crate::specs::Words::noun))]
+fn put_noun(page: &mut Page, kind: Kind)
+    requires { Fits page.old (noun kind) }
+    ensures { Put page.old (noun kind) page.new }
 {
     match kind {
-        Kind::Cells => text::put_bytes(out, at, b" cells"),
-        Kind::Ends => text::put_bytes(out, at, b" ends"),
+        Kind::Cells => page.bytes(b" cells"),
+        Kind::Ends => page.bytes(b" ends"),
     }
-}
-
-// So many of a kind.
-fn put_counted(kind: Kind, out: &mut [u8], count: usize) -> usize
-    requires { Room out.old 0 (counted kind count) }
-    ensures { Wrote out.old 0 (counted kind count) out.new result }
-{
-    let next = text::put_decimal(out, 0, count as u64);
-    put_noun(kind, out, next)
 }
 
 // There are too many.
-fn put_many(kind: Kind, out: &mut [u8], count: usize) -> usize
-    requires { most_words ≤ length out.old }
-    ensures { PageSays (many_words kind count) out.old result out.new }
+#[tactic(auto, unfolding(crate::specs::Words::many_words))]
+fn put_many(page: &mut Page, kind: Kind, count: usize)
+    requires { Fits page.old (many_words kind count) }
+    ensures { Put page.old (many_words kind count) page.new }
 {
-    let next = put_counted(kind, out, count);
-    let numbers = [most_arguments(kind) as u32];
-    text::put_filled(out, next, b", and a table has at most #", &numbers[..])
+    page.decimal(count as u64);
+    put_noun(page, kind);
+    page.filled(
+        b", and a table has at most #",
+        &[most_arguments(kind) as u32],
+    );
 }
 
 // There is a low end without its high one.
-fn put_odd(out: &mut [u8], count: usize) -> usize
-    requires { (most_words ≤ length out.old) × (count ≤ most_arguments Kind.Ends) }
-    ensures { PageSays (odd_words count) out.old result out.new }
+#[tactic(auto, unfolding(crate::specs::Words::odd_words))]
+fn put_odd(page: &mut Page, count: usize)
+    requires { (count ≤ most_arguments Kind.Ends) × Fits page.old (odd_words count) }
+    ensures { Put page.old (odd_words count) page.new }
 {
-    let numbers = [(count / guard::ENDS) as u32];
-    text::put_filled(
-        out,
-        0,
+    page.filled(
         b"the last cell, number #, has no high end",
-        &numbers[..],
-    )
+        &[(count / guard::ENDS) as u32],
+    );
 }
 
 // Whether each cell has all of its arguments.
+#[tactic(auto, unfolding(crate::specs::Words::whole_cells))]
 fn whole_cells(kind: Kind, count: usize) -> bool
     ensures { result ≡ whole_cells kind count }
 {
@@ -199,125 +184,87 @@ fn whole_cells(kind: Kind, count: usize) -> bool
 }
 
 // So many arguments: nothing is said where that is a number of them that is good.
+#[tactic(auto, using(text::proofs::Pages::page_done, crate::proofs::Said::none_short, crate::proofs::Said::many_short, crate::proofs::Said::odd_short), unfolding(crate::specs::Words::count_words))]
 pub fn put_count(kind: Kind, out: &mut [u8], count: usize) -> usize
     requires { most_words ≤ length out.old }
     ensures { PageSays (count_words kind count) out.old result out.new }
 {
+    let mut page = Page::new(out);
     if count == 0 {
-        return put_none(kind, out);
+        put_none(&mut page, kind);
+    } else if most_arguments(kind) < count {
+        put_many(&mut page, kind, count);
+    } else if !whole_cells(kind, count) {
+        put_odd(&mut page, count);
     }
-    if most_arguments(kind) < count {
-        return put_many(kind, out, count);
-    }
-    if !whole_cells(kind, count) {
-        return put_odd(out, count);
-    }
-    0
+    page.end()
 }
 
 // ---- what is said of one
 
 // A byte as it is shown: one that is no letter, digit or sign of ASCII as a question mark.
+#[tactic(auto, unfolding(crate::specs::Words::shown_byte))]
 fn shown_byte(byte: u8) -> u8
     ensures { result ≡ shown_byte byte }
 {
-    if byte < 32 {
-        return b'?';
+    match byte {
+        b' '..=b'~' => byte,
+        _ => b'?',
     }
-    if 126 < byte {
-        return b'?';
-    }
-    byte
 }
 
+// How many bytes of an argument are shown.
 const MOST_SHOWN: usize = 40;
 
-fn shown_bytes(count: usize) -> usize
-    ensures { result ≡ min count most_shown }
-{
-    if count < MOST_SHOWN {
-        count
-    } else {
-        MOST_SHOWN
-    }
-}
-
 // The first bytes of an argument.
-fn put_shown_bytes(out: &mut [u8], at: usize, word: &[u8], count: usize) -> usize
-    requires { (count ≤ length word.now) × Room out.old at (texts (byte_of word.now) count) }
-    ensures { Wrote out.old at (texts (byte_of word.now) count) out.new result }
+fn put_shown_bytes(page: &mut Page, word: &[u8])
+    requires { Fits page.old (map shown_byte word.now) }
+    ensures { Put page.old (map shown_byte word.now) page.new }
 {
-    let mut to = at;
-    for k in 0..count {
-        to = text::put_byte(out, to, shown_byte(word[k]));
+    for &byte in word {
+        page.byte(shown_byte(byte));
     }
-    to
 }
 
 // An argument as it is shown.
-fn put_word(out: &mut [u8], at: usize, word: &[u8]) -> usize
-    requires { Room out.old at (shown_word word.now) }
-    ensures { Wrote out.old at (shown_word word.now) out.new result }
+#[tactic(auto, unfolding(crate::specs::Words::shown_word))]
+fn put_word(page: &mut Page, word: &[u8])
+    requires { Fits page.old (shown_word word.now) }
+    ensures { Put page.old (shown_word word.now) page.new }
 {
-    let count = shown_bytes(word.len());
-    let next = put_shown_bytes(out, at, word, count);
-    if word.len() <= MOST_SHOWN {
-        return next;
+    let shown = word.len().min(MOST_SHOWN);
+    put_shown_bytes(page, &word[..shown]);
+    if shown < word.len() {
+        page.bytes(b"...");
     }
-    text::put_bytes(out, next, b"...")
 }
 
-// A text with numbers in it, and behind it the argument.
-fn put_about(out: &mut [u8], text: &[u8], numbers: &[u32], word: &[u8]) -> usize
-    requires { Room out.old 0 (about text.now numbers.now word.now) }
-    ensures { PageSays (about text.now numbers.now word.now) out.old result out.new }
+// What is said of the argument at a place, from 1, by why it is no word: a text with numbers in it, and behind it the argument.
+#[tactic(auto, unfolding(crate::specs::Words::no_word_text, crate::specs::Words::no_word_words))]
+fn put_no_word(page: &mut Page, kind: Kind, none: NoWord, place: u32, word: &[u8])
+    requires { Fits page.old (no_word_words kind none place word.now) }
+    ensures { Put page.old (no_word_words kind none place word.now) page.new }
 {
-    let next = text::put_filled(out, 0, text, numbers);
-    put_word(out, next, word)
-}
-
-// The argument at a place, from 1, is more than the largest of its kind.
-fn put_over(kind: Kind, out: &mut [u8], place: u32, word: &[u8]) -> usize
-    requires { most_words ≤ length out.old }
-    ensures { PageSays (over_words kind place word.now) out.old result out.new }
-{
-    let numbers = [place, largest(kind)];
-    put_about(out, b"argument # is over #: ", &numbers[..], word)
-}
-
-// It is less than the smallest.
-fn put_under(out: &mut [u8], place: u32, word: &[u8]) -> usize
-    requires { most_words ≤ length out.old }
-    ensures { PageSays (under_words place word.now) out.old result out.new }
-{
-    let numbers = [place, guard::LOWEST];
-    put_about(out, b"argument # is under -#: ", &numbers[..], word)
-}
-
-// It is no number.
-fn put_no_number(out: &mut [u8], place: u32, word: &[u8]) -> usize
-    requires { most_words ≤ length out.old }
-    ensures { PageSays (no_number_words place word.now) out.old result out.new }
-{
-    let numbers = [place];
-    put_about(out, b"argument # is no number: ", &numbers[..], word)
+    match none {
+        NoWord::Over => page.filled(b"argument # is over #: ", &[place, largest(kind)]),
+        NoWord::Under => page.filled(b"argument # is under -#: ", &[place, guard::LOWEST]),
+        NoWord::NoNumber => page.filled(b"argument # is no number: ", &[place]),
+    }
+    put_word(page, word);
 }
 
 // ---- an argument as word k of a list
 
 // Its word goes there and nothing is said, or it is said why it is none, and the list stays.
+#[tactic(auto, using(text::proofs::Pages::page_done, crate::proofs::Said::no_word_short), unfolding(crate::specs::Words::argument_words, crate::specs::Words::with_word))]
 pub fn take(kind: Kind, list: &mut [u32], k: usize, word: &[u8], out: &mut [u8]) -> usize
     requires { (k < length list.old) × (k < most_arguments Kind.Ends) × (most_words ≤ length out.old) }
     ensures { ArgumentSays kind word.now k list.old out.old result list.new out.new }
 {
-    let place = (k + 1) as u32;
+    let mut page = Page::new(out);
     match read(kind, word) {
-        Reading::Word(w) => {
-            list[k] = w;
-            0
-        }
-        Reading::Over => put_over(kind, out, place, word),
-        Reading::Under => put_under(out, place, word),
-        Reading::NoWord => put_no_number(out, place, word),
+        Ok(w) => list[k] = w,
+        Err(none) => put_no_word(&mut page, kind, none, (k + 1) as u32, word),
     }
+    page.end()
 }

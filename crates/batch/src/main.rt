@@ -1,13 +1,13 @@
 // Reads a batch from standard input, runs it and prints what came of it: document 01, "Bench sheet". The page is made in a buffer and written once.
 #![tactic(auto)]
 
+use report::Guards;
+
 fn main(rt: HostRuntime) {
-    let mut bytes = [0u8; input::LONGEST];
-    let n = input::read_input(&rt, b"batch", &mut bytes);
-    let mut page = results::room();
-    let end = report::batch_page(report::Guards::FullRange, &bytes[..n], &mut page);
-    output::print(b"batch", &page[0..end]);
-    let mut words = refused::where_room();
-    let said = report::said(report::Guards::FullRange, &bytes[..n], &mut words);
-    output::say(&words[0..said]);
+    programs::run::<{ input::LONGEST }, { results::BYTES }, { refused::WHERE_BYTES }, _, _>(
+        &rt,
+        b"batch",
+        |input, page| Ok(report::batch_page(Guards::FullRange, input, page)),
+        |input, words| report::said(Guards::FullRange, input, words),
+    );
 }

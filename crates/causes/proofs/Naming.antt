@@ -47,3 +47,6 @@ module _ (T k : ℕ) (a : List ℕ) (s : Slotted T k a) where
       go false true r x p q h = names Stores Write p
       go false false true x p q h = names Reads Write q
       go false false false x p q h = tt
+
+-- a cell that is found, and whether there is one
+pub ruleset by_cells = (lowest_names, depends_lowest)

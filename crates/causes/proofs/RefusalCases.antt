@@ -2,11 +2,12 @@
 use Prim.Native.Nat.{ℕ}
 use mathlib.Core.Path.{◌≡◌, refl}
 use mathlib.Core.List.{List, [], ◌∷◌, ◌++◌, map}
-use Rattle.image.specs.Refusals.{refusing}
+use Rattle.std.specs.Prelude.{Ok, Err}
+use Rattle.image.specs.declared.refusals.Refusal.TheVariants as refusal
+use Rattle.image.specs.Refusals.{told}
 use Rattle.image.specs.Assembler.{image}
 use Rattle.area.specs.Sketch.{slot, area}
-use Rattle.causes.specs.declared.answers.Why.TheVariants.{Refused, Raw}
-use Rattle.causes.specs.declared.answers.Before.TheVariants as before
+use Rattle.causes.specs.declared.answers.Why.TheVariants.{Raw}
 use Rattle.causes.specs.Why.{why_refusal, why_answer, ask_refusal, before_answer}
 use Rattle.causes.specs.Opened.{opened}
 
@@ -23,15 +24,15 @@ guards = 1 ∷ 0 ∷ []
 
 -- of program k
 abbrev asked : (rule other state detail k : ℕ) → ℕ
-asked rule other state detail k = (why_refusal (two rule) (8 ∷ []) guards (standing other state detail) k).number
+asked rule other state detail k = (told (why_refusal (two rule) (8 ∷ []) guards (standing other state detail) k)).number
 
 -- done; "as for settling up to 8": one of each check before, and a number of n
 first_eight :
     asked 1 4 5 2 1
-    ∷ (why_refusal (two 3) (8 ∷ []) guards (standing 4 5 2) 1).number
-    ∷ (why_refusal (two 1) [] guards (standing 4 5 2) 1).number
-    ∷ (why_refusal (two 1) (8 ∷ 8 ∷ []) guards (standing 4 5 2) 1).number
-    ∷ (why_refusal (two 1) (8 ∷ 8 ∷ []) (guards ++ guards) (standing 4 5 2) 1).number
+    ∷ (told (why_refusal (two 3) (8 ∷ []) guards (standing 4 5 2) 1)).number
+    ∷ (told (why_refusal (two 1) [] guards (standing 4 5 2) 1)).number
+    ∷ (told (why_refusal (two 1) (8 ∷ 8 ∷ []) guards (standing 4 5 2) 1)).number
+    ∷ (told (why_refusal (two 1) (8 ∷ 8 ∷ []) (guards ++ guards) (standing 4 5 2) 1)).number
     ∷ asked 1 6 5 2 1
     ∷ asked 1 4 5 2 2
     ∷ []
@@ -68,7 +69,7 @@ unfolding opened
 by_the_rule = refl
 
 -- "also where they give none": program 0 has nobody before it, with any detail
-no_reason_lem : map (λ detail. (why_refusal (two 1) (8 ∷ []) guards (area (1 ∷ []) (2 ∷ []) (slot 5 detail [] (0 ∷ []) (60 ∷ []) ∷ slot 4 0 [] [] [] ∷ [])) 0).number) (0 ∷ 1 ∷ 2 ∷ 3 ∷ [])
+no_reason_lem : map (λ detail. (told (why_refusal (two 1) (8 ∷ []) guards (area (1 ∷ []) (2 ∷ []) (slot 5 detail [] (0 ∷ []) (60 ∷ []) ∷ slot 4 0 [] [] [] ∷ [])) 0)).number) (0 ∷ 1 ∷ 2 ∷ 3 ∷ [])
     ≡ 15 ∷ 15 ∷ 15 ∷ 15 ∷ []
 unfolding opened
 no_reason_lem = refl
@@ -79,19 +80,19 @@ thirteen_before_fifteen = refl
 
 -- "A refusal returns its number"
 refused : why_answer (two 1) (8 ∷ []) guards (standing 4 4 0) 1 ∷ why_answer (two 1) (8 ∷ []) guards (standing 4 5 1) 1 ∷ why_answer (two 1) (8 ∷ []) guards (standing 4 5 2) 1 ∷ []
-    ≡ Refused (refusing 13) ∷ Refused (refusing 15) ∷ Raw (record { cell = 0; program = 0 }) ∷ []
+    ≡ Err refusal.NotCarried ∷ Err refusal.Reason ∷ Ok (Raw (record { cell = 0; program = 0 })) ∷ []
 unfolding opened
 refused = refl
 
 -- before whom it comes: checks 1 to 9 and no more
 before_refused :
-    map (λ k. (ask_refusal (two 1) (8 ∷ []) guards (standing 4 4 0) k).number) (0 ∷ 1 ∷ 2 ∷ [])
-    ∷ map (λ other. (ask_refusal (two 1) (8 ∷ []) guards (standing other 4 0) 1).number) (0 ∷ 1 ∷ 2 ∷ [])
+    map (λ k. (told (ask_refusal (two 1) (8 ∷ []) guards (standing 4 4 0) k)).number) (0 ∷ 1 ∷ 2 ∷ [])
+    ∷ map (λ other. (told (ask_refusal (two 1) (8 ∷ []) guards (standing other 4 0) 1)).number) (0 ∷ 1 ∷ 2 ∷ [])
     ∷ []
     ≡ (0 ∷ 0 ∷ 8 ∷ []) ∷ (9 ∷ 9 ∷ 0 ∷ []) ∷ []
 unfolding opened
 before_refused = refl
 
-refused_before : before_answer (two 1) (8 ∷ []) guards (standing 1 4 0) 1 ≡ before.Refused (refusing 9)
+refused_before : before_answer (two 1) (8 ∷ []) guards (standing 1 4 0) 1 ≡ Err refusal.State
 unfolding opened
 refused_before = refl

@@ -2,25 +2,24 @@
 use Prim.Native.Nat.{ℕ}
 use mathlib.Core.Path.{◌≡◌, refl, sym, ap, ◌∙◌}
 use mathlib.Core.List.{List}
-use native.Mathlib.Omega.{arith}
 use lib.ListN.{length}
 use borrow.Author.Tests.{eq-eqb, ne_eqb}
-use Rattle.image.specs.declared.Refusal.{Refusal}
-use Rattle.image.specs.Refusals as refusal
-use Rattle.image.proofs.Refusing.{number_of, first_refuses, refused_as_lem, done_as, last_decides}
+use Rattle.std.specs.Prelude.{Option, Result, Ok, Err}
+use Rattle.image.specs.declared.refusals.Refusal.{Refusal}
+use Rattle.image.specs.declared.refusals.Refusal.TheVariants as refusal
+use Rattle.image.specs.Refusals.{passed}
+use Rattle.image.proofs.Refusing.{first_refuses, unless_refused, unless_done, last_decides}
 use Rattle.area.specs.Layout.{detail_of}
 use Rattle.steps.specs.declared.Reason.TheVariants.{Waw, Raw, RawWithWar}
 use Rattle.steps.specs.declared.Settled.{Settled}
-use Rattle.steps.specs.declared.Settled.TheVariants.{Refused, Committed, Carried}
+use Rattle.steps.specs.declared.Settled.TheVariants.{Committed, Carried}
 use Rattle.steps.specs.declared.Verdict.{Verdict}
-use Rattle.steps.specs.Answers.{reason_number, numbers_of_settled}
+use Rattle.steps.specs.Answers.{reason_number, detail_of_settled}
 use Rattle.steps.specs.Settling.{verdict, with_cells, settled_by}
 use Rattle.steps.proofs.Says.{cells_dropped}
 use Rattle.causes.specs.Causes.{cause_of}
+use Rattle.causes.specs.declared.answers.Cause.{Cause}
 use Rattle.causes.specs.declared.answers.Why.{Why}
-use Rattle.causes.specs.declared.answers.Why.TheVariants as why
-use Rattle.causes.specs.declared.answers.Before.{Before}
-use Rattle.causes.specs.declared.answers.Before.TheVariants as before
 use Rattle.causes.specs.Why.{explained, is_reason, explained_by, told_by, answer_for, ask_refusal, carried_refusal, holds_reason, why_refusal, why_answer, WhySays, Explains}
 use Rattle.causes.specs.Why.{before_of, before_answer, BeforeSays}
 
@@ -29,36 +28,33 @@ use Rattle.causes.specs.Why.{before_of, before_answer, BeforeSays}
 -- the reason with its cause, from the cells that settling found
 told_same : (v : Settled) (T k : ℕ) (a : List ℕ) → told_by (with_cells v T k a) T a ≡ explained_by v T k a
 unfolding told_by with_cells explained_by explained cause_of
-told_same (Refused r) T k a = refl
 told_same Committed T k a = refl
 told_same (Carried Waw) T k a = refl
 told_same (Carried Raw) T k a = refl
 told_same (Carried RawWithWar) T k a = refl
 
 -- the detail is not the decision's, or it is; a decision to commit has a detail, but no reason
-not_the_reason : (v : Settled) (T k : ℕ) (a : List ℕ) → (detail_of T k a ≡ (numbers_of_settled v).detail → ⊥) → why.Refused refusal.reason ≡ answer_for v T k a
+not_the_reason : (v : Settled) (T k : ℕ) (a : List ℕ) → (detail_of T k a ≡ detail_of_settled v → ⊥) → Err refusal.Reason ≡ answer_for v T k a
 unfolding answer_for is_reason
-not_the_reason (Refused r) T k a h = refl
 not_the_reason Committed T k a h = refl
 not_the_reason (Carried reason) T k a h = rw (ne_eqb (detail_of T k a) (reason_number reason) h)
 
-the_reason : (v : Settled) (T k : ℕ) (a : List ℕ) → detail_of T k a ≡ (numbers_of_settled v).detail → explained_by v T k a ≡ answer_for v T k a
+the_reason : (v : Settled) (T k : ℕ) (a : List ℕ) → detail_of T k a ≡ detail_of_settled v → explained_by v T k a ≡ answer_for v T k a
 unfolding answer_for is_reason explained_by
-the_reason (Refused r) T k a e = refl
 the_reason Committed T k a e = refl
 the_reason (Carried reason) T k a e = rw (eq-eqb (detail_of T k a) (reason_number reason) e)
 
 -- j is what settling found, d the detail that its decision leaves
 module _ (image t a : List ℕ) (k : ℕ) (j : Verdict) (found : j ≡ with_cells (verdict image (length t) k a) (length t) k a) (d : ℕ)
-    (leaves : d ≡ (numbers_of_settled (settled_by j)).detail) where
-  detail_left : d ≡ (numbers_of_settled (verdict image (length t) k a)).detail
-  detail_left = leaves ∙ ap (λ (v : Settled). (numbers_of_settled v).detail) (ap settled_by found ∙ cells_dropped image a (length t) k)
+    (leaves : d ≡ detail_of_settled (settled_by j)) where
+  detail_left : d ≡ detail_of_settled (verdict image (length t) k a)
+  detail_left = leaves ∙ ap detail_of_settled (ap settled_by found ∙ cells_dropped image a (length t) k)
 
-  pub other_detail : (detail_of (length t) k a ≡ d → ⊥) → Explains image t a k (why.Refused refusal.reason)
+  pub other_detail : (detail_of (length t) k a ≡ d → ⊥) → Explains image t a k (Err refusal.Reason)
   other_detail h = record { answer = not_the_reason (verdict image (length t) k a) (length t) k a (λ e. h (e ∙ sym detail_left)) }
 
-  pub same_detail : detail_of (length t) k a ≡ d → (x : Why) → x ≡ told_by j (length t) a → Explains image t a k x
-  same_detail e x f =
+  pub same_detail : detail_of (length t) k a ≡ d → {x : Result Why Refusal} → x ≡ told_by j (length t) a → Explains image t a k x
+  same_detail e f =
       record {
         answer =
             f
@@ -66,29 +62,28 @@ module _ (image t a : List ℕ) (k : ℕ) (j : Verdict) (found : j ≡ with_cell
             ∙ (told_same (verdict image (length t) k a) (length t) k a ∙ the_reason (verdict image (length t) k a) (length t) k a (e ∙ detail_left)));
       }
 
-module _ (image t g a : List ℕ) (k : ℕ) (r : Refusal) (e : r ≡ carried_refusal image t g a k) where
-  pub why_refused : (r.number ≡ 0 → ⊥) → WhySays image t g a k (why.Refused r)
+module _ (image t g a : List ℕ) (k : ℕ) where
+  pub why_refused : {r : Refusal} → carried_refusal image t g a k ≡ Err r → WhySays image t g a k (Err r)
   unfolding why_answer why_refusal
-  why_refused h = record { answer = refused_as_lem why.Refused _ (first_refuses _ e h) h }
+  why_refused e = record { answer = sym (unless_refused _ Err _ (sym (first_refuses _ refl e))) }
 
   -- where the checks up to 13 pass, 15 decides
-  pub why_done : r.number ≡ 0 → (x : Why) → Explains image t a k x → WhySays image t g a k x
+  pub why_done : carried_refusal image t g a k ≡ passed → {x : Result Why Refusal} → Explains image t a k x → WhySays image t g a k x
   unfolding why_answer why_refusal holds_reason answer_for
-  why_done h x w =
+  why_done e w =
       record {
         answer =
             w.answer
-            ∙ last_decides (carried_refusal image t g a k) refusal.reason (holds_reason image (length t) k a) why.Refused
-            (explained_by (verdict image (length t) k a) (length t) k a) (number_of (sym e) ∙ h) (λ z. omega arith);
+            ∙ last_decides (carried_refusal image t g a k) refusal.Reason (holds_reason image (length t) k a) Err
+            (explained_by (verdict image (length t) k a) (length t) k a) e;
       }
 
--- ---- before whom
+  -- ---- before whom
 
-module _ (image t g a : List ℕ) (k : ℕ) (r : Refusal) (e : r ≡ ask_refusal image t g a k) where
-  pub before_refused : (r.number ≡ 0 → ⊥) → BeforeSays image t g a k (before.Refused r)
+  pub before_refused : {r : Refusal} → ask_refusal image t g a k ≡ Err r → BeforeSays image t g a k (Err r)
   unfolding before_answer
-  before_refused h = record { answer = refused_as_lem before.Refused _ e h }
+  before_refused e = record { answer = sym (unless_refused _ Err _ e) }
 
-  pub before_done : r.number ≡ 0 → (x : Before) → x ≡ before_of (length t) k a → BeforeSays image t g a k x
+  pub before_done : ask_refusal image t g a k ≡ passed → {x : Option Cause} → x ≡ before_of (length t) k a → BeforeSays image t g a k (Ok x)
   unfolding before_answer
-  before_done h x f = record { answer = done_as before.Refused e h f }
+  before_done e f = record { answer = ap Ok f ∙ sym (unless_done _ Err _ e) }

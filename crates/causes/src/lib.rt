@@ -10,7 +10,6 @@ ghost use Rattle.causes.specs.Why.{told_by, NamesAll, ask_refusal, carried_refus
 mod answers;
 
 pub use answers::{Cause, Why};
-
 use image::Refusal;
 
 // The cause that a cell shows: with it, the program that its mark of a kind names.
@@ -25,6 +24,7 @@ fn cause_at(area: &[u32], cells: usize, cell: usize, marks: area::MarkKind) -> C
 }
 
 // The reason of a decision with its cause; a decision to commit has none.
+#[tactic(auto, unfolding(crate::specs::Why::told_by))]
 fn with_cause(verdict: steps::Verdict, area: &[u32], cells: usize) -> Result<Why, Refusal>
     requires { NamesAll verdict cells area.now }
     ensures { result ≡ told_by verdict cells area.now }
@@ -43,12 +43,8 @@ fn with_cause(verdict: steps::Verdict, area: &[u32], cells: usize) -> Result<Why
 }
 
 // Why a program was carried, where the checks up to 13 have been made: the decision is settling's, and its reason has to be the detail.
-pub fn why_checked(
-    image: &[u8],
-    table: &[u32],
-    area: &[u32],
-    number: usize,
-) -> Result<Why, Refusal>
+#[tactic(auto, using(crate::proofs::Says::other_detail, crate::proofs::Says::same_detail))]
+pub fn why_checked(image: &[u8], table: &[u32], area: &[u32], number: usize) -> Result<Why, Refusal>
     requires { Checked image.now table.now area.now × (number < count_of image.now) }
     ensures { Explains image.now table.now area.now number result }
 {
@@ -62,6 +58,7 @@ pub fn why_checked(
 }
 
 // Checks 1 to 9 of a question about one program of a batch that has ended.
+#[tactic(auto, using(crate::proofs::Refusals::asking), unfolding(crate::specs::Why::ask_refusal))]
 fn ask_refusal(
     image: &[u8],
     table: &[u32],
@@ -79,6 +76,7 @@ fn ask_refusal(
 }
 
 // And 13.
+#[tactic(auto, using(crate::proofs::Refusals::carrying), unfolding(crate::specs::Why::carried_refusal, area::specs::Layout::in_group))]
 fn carried_refusal(
     image: &[u8],
     table: &[u32],
@@ -97,6 +95,7 @@ fn carried_refusal(
 }
 
 // Why a program of a settled batch was carried: the reason with its cause.
+#[tactic(auto, using(crate::proofs::Refusals::carried_shows, crate::proofs::Says::why_refused, crate::proofs::Says::why_done))]
 pub fn why(
     image: &[u8],
     table: &[u32],
@@ -111,6 +110,7 @@ pub fn why(
 }
 
 // RAW of a program, with its cause, where it has one.
+#[tactic(auto, using(crate::proofs::Naming::by_cells), unfolding(crate::specs::Why::before_of, crate::specs::Causes::cause_of))]
 fn before_whom(area: &[u32], cells: usize, number: usize) -> Option<Cause>
     requires { Slotted cells number area.now }
     ensures { result ≡ before_of cells number area.now }
@@ -122,6 +122,7 @@ fn before_whom(area: &[u32], cells: usize, number: usize) -> Option<Cause>
 }
 
 // Before whom a program of a settled batch comes, if it comes before one: it read a cell as it was, which an earlier program stores.
+#[tactic(auto, using(crate::proofs::Says::before_refused, crate::proofs::Says::before_done))]
 pub fn comes_before(
     image: &[u8],
     table: &[u32],

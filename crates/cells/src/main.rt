@@ -2,13 +2,11 @@
 // there is a line on standard error, and nothing is written.
 #![tactic(auto)]
 
+use arguments::Kind;
+use image::Image;
+
 fn main(rt: HostRuntime) {
-    let mut table = [0u32; image::Image::CELLS];
-    let cells = from_arguments::read(&rt, b"cells", arguments::Kind::Cells, &mut table);
-    if cells == 0 {
-        return;
-    }
-    let mut page = prefix::room();
-    let end = prefix::put_prefix(&mut page, &table[0..cells]);
-    output::print(b"cells", &page[0..end]);
+    from_arguments::run::<{ Image::CELLS }, { prefix::MOST }, _>(&rt, b"cells", Kind::Cells, |cells, page| {
+        prefix::put_prefix(page, cells)
+    });
 }

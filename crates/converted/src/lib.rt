@@ -14,30 +14,8 @@ use image::{ImageRefusal, Refusal, RefusalNumbers};
 use sheet::Unwritten;
 use text::Page;
 
-// The longest input that the two programs take, and what they say of a longer one.
+// The longest input that the two programs take.
 pub const LONGEST_INPUT: usize = 1048576;
-
-pub const TOO_LONG: [u8; 38] = *b"the input is longer than 1048576 bytes";
-
-// Room for the longest input and a byte more, by which a longer one is told.
-pub fn input_room() -> [u8; LONGEST_INPUT + 1]
-    ensures { (longest_input + 1 ≡ length result) × (result ≡ replicate (longest_input + 1) 0) }
-{
-    [0; LONGEST_INPUT + 1]
-}
-
-// Room for every image, and for every sheet of one.
-pub fn image_room() -> [u8; image::Image::BYTES]
-    ensures { (max_bytes ≡ length result) × (result ≡ replicate max_bytes 0) }
-{
-    [0; image::Image::BYTES]
-}
-
-pub fn sheet_room() -> [u8; from_image::LONGEST_SHEET]
-    ensures { (longest_sheet ≡ length result) × (result ≡ replicate longest_sheet 0) }
-{
-    [0; from_image::LONGEST_SHEET]
-}
 
 // What `to_image` prints of a sheet.
 pub fn image_page(sheet: &[u8], out: &mut [u8]) -> usize

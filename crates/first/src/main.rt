@@ -1,6 +1,8 @@
 // The smallest program over the library: README, "In a program of your own", shows it whole.
 #![tactic(auto)]
 
+use sheetbendle::{Refusal, RefusalNumbers};
+
 // The image: two programs on two cells, the heater's set point and the beacon's copy of it.
 //   two programs, Rule 2; where each begins, and the end
 //   program 0: set r1 to 25; store r1 to cell number r0, which is 0
@@ -18,16 +20,18 @@ fn print(text: &[u8], number: u32) {
 // The guards: the set point stays between -20 and 45, and the copy may be any number. -20 is written as 2^32 - 20.
 const GUARDS: [u32; 4] = [4294967276, 45, sheetbendle::LOWEST, sheetbendle::HIGHEST];
 
-// Both programs are committed, so the list is full: as if the first had run, and then the other.
-fn print_order(table: &[u32], area: &[u32]) {
+// Runs the batch. Both programs are committed, so the list is full: as if the first had run, and then the other.
+fn run(table: &mut [u32], area: &mut [u32]) -> Result<(), Refusal> {
+    sheetbendle::open(&IMAGE, table, &GUARDS, area)?;
+    sheetbendle::gather(&IMAGE, table, &GUARDS, area, 0)?;
+    sheetbendle::gather(&IMAGE, table, &GUARDS, area, 1)?;
+    sheetbendle::settle(&IMAGE, table, &GUARDS, area, 0)?;
+    sheetbendle::settle(&IMAGE, table, &GUARDS, area, 1)?;
     let mut list = [0u32; 2];
-    match sheetbendle::order(&IMAGE, table, &GUARDS, area, &mut list) {
-        sheetbendle::Listed::Refused(refusal) => print(b"refused ", refusal.number),
-        sheetbendle::Listed::Count(_) => {
-            print(b"first program ", list[0]);
-            print(b"then program ", list[1]);
-        }
-    }
+    sheetbendle::order(&IMAGE, table, &GUARDS, area, &mut list)?;
+    print(b"first program ", list[0]);
+    print(b"then program ", list[1]);
+    Ok(())
 }
 
 fn main() {
@@ -35,17 +39,10 @@ fn main() {
     // room for the largest work area; of it, the words of one for two cells and two programs
     let mut room = [0u32; sheetbendle::AREA_WORDS];
     let words = sheetbendle::area_words(2, 2);
-    let area = &mut room[0..words];
-    let refused = sheetbendle::open(&IMAGE, &table, &GUARDS, area);
-    if refused.number != 0 {
-        print(b"refused ", refused.number);
+    if let Err(refusal) = run(&mut table, &mut room[0..words]) {
+        print(b"refused ", RefusalNumbers::from(refusal).number);
         return;
     }
-    sheetbendle::gather(&IMAGE, &table, &GUARDS, area, 0);
-    sheetbendle::gather(&IMAGE, &table, &GUARDS, area, 1);
-    sheetbendle::settle(&IMAGE, &mut table, &GUARDS, area, 0);
-    sheetbendle::settle(&IMAGE, &mut table, &GUARDS, area, 1);
-    print_order(&table, area);
     print(b"set point ", table[0]);
     print(b"beacon's copy ", table[1]);
 }

@@ -2,10 +2,11 @@
 // error.
 #![tactic(auto)]
 
-ghost use Rattle.std.specs.Prelude.{◌≡◌, false, ◌≤◌, ◌<◌, length};
+ghost use Rattle.std.specs.Prelude.{◌≡◌, false, ◌≤◌, ◌<◌, ◌^◌, length, IfSome};
 ghost use Rattle.arguments.specs.declared.Kind.TheVariants.{Ends};
 ghost use Rattle.arguments.specs.Kinds.{most_arguments};
 
+use arguments::Kind;
 use std::env::{Env, FillError};
 
 // How many there are: the first of all is the program's name. With no room lent, one that is there is too long, but where it is empty.
@@ -19,26 +20,21 @@ fn count(rt: &impl Env) -> usize {
 }
 
 // A complaint about how many there are, or none; answers whether there was one.
-fn complains_of_count(program: &[u8], kind: arguments::Kind, count: usize) -> bool
+#[tactic(auto, using(arguments::proofs::Said::silent_few))]
+fn complains_of_count(program: &[u8], kind: Kind, count: usize) -> bool
     ensures { result ≡ false → count ≤ most_arguments kind }
 {
-    let mut words = arguments::room();
+    let mut words = [0u8; arguments::MOST];
     let end = arguments::put_count(kind, &mut words, count);
     if end == 0 {
         return false;
     }
-    output::complain(program, &words[0..end]);
+    output::complain(program, &words[..end]);
     true
 }
 
 // Room for the longest argument that Linux hands over, where its pages have 4096 bytes.
 const ARGUMENT: usize = 131072;
-
-fn argument_room() -> [u8; ARGUMENT]
-    ensures { 131072 ≡ length result }
-{
-    [0; ARGUMENT]
-}
 
 // Argument i into what is lent, and how many of its bytes are there: of one that is longer than that as many as fit, which no word has.
 fn read_argument(rt: &impl Env, i: usize, room: &mut [u8]) -> usize
@@ -52,16 +48,16 @@ fn read_argument(rt: &impl Env, i: usize, room: &mut [u8]) -> usize
 }
 
 // An argument as word k of the list, or a complaint about it; answers whether it is one.
-fn take(program: &[u8], kind: arguments::Kind, list: &mut [u32], k: usize, word: &[u8]) -> bool
+fn take(program: &[u8], kind: Kind, list: &mut [u32], k: usize, word: &[u8]) -> bool
     requires { (k < length list.old) × (k < most_arguments Ends) }
     ensures { length list.new ≡ length list.old }
 {
-    let mut words = arguments::room();
+    let mut words = [0u8; arguments::MOST];
     let end = arguments::take(kind, list, k, word, &mut words);
     if end == 0 {
         return true;
     }
-    output::complain(program, &words[0..end]);
+    output::complain(program, &words[..end]);
     false
 }
 
@@ -69,7 +65,7 @@ fn take(program: &[u8], kind: arguments::Kind, list: &mut [u32], k: usize, word:
 fn read_word(
     rt: &impl Env,
     program: &[u8],
-    kind: arguments::Kind,
+    kind: Kind,
     list: &mut [u32],
     k: usize,
     room: &mut [u8],
@@ -78,17 +74,16 @@ fn read_word(
     ensures { length list.new ≡ length list.old }
 {
     let n = read_argument(rt, k + 1, room);
-    take(program, kind, list, k, &room[0..n])
+    take(program, kind, list, k, &room[..n])
 }
 
 // Each word of the list, up to the first argument that is none; answers whether all are words.
-fn read_words(rt: &impl Env, program: &[u8], kind: arguments::Kind, list: &mut [u32]) -> bool
+fn read_words(rt: &impl Env, program: &[u8], kind: Kind, list: &mut [u32]) -> bool
     requires { length list.old ≤ most_arguments Ends }
     ensures { length list.new ≡ length list.old }
 {
-    let mut room = argument_room();
-    let n = list.len();
-    for k in 0..n {
+    let mut room = [0u8; ARGUMENT];
+    for k in 0..list.len() {
         if !read_word(rt, program, kind, list, k, &mut room) {
             return false;
         }
@@ -96,17 +91,41 @@ fn read_words(rt: &impl Env, program: &[u8], kind: arguments::Kind, list: &mut [
     true
 }
 
-// The arguments as words, at the front of what is lent, and how many they are: 0 after a complaint.
-pub fn read(rt: &impl Env, program: &[u8], kind: arguments::Kind, list: &mut [u32]) -> usize
+// The arguments as words, at the front of what is lent, and how many they are; none after a complaint.
+#[tactic(auto, using(arguments::proofs::Said::most_ends))]
+fn read(rt: &impl Env, program: &[u8], kind: Kind, list: &mut [u32]) -> Option<usize>
     requires { most_arguments kind ≤ length list.old }
-    ensures { (result ≤ most_arguments kind) × (length list.new ≡ length list.old) }
+    ensures few { IfSome result (λ n. n ≤ most_arguments kind) }
+    ensures same_room { length list.new ≡ length list.old }
 {
     let n = count(rt);
     if complains_of_count(program, kind, n) {
-        return 0;
+        return None;
     }
-    if read_words(rt, program, kind, &mut list[0..n]) {
-        return n;
+    if read_words(rt, program, kind, &mut list[..n]) {
+        Some(n)
+    } else {
+        None
     }
-    0
+}
+
+// Runs a program of a name whose arguments are words of a kind, in rooms for the most words and the longest page: the page that is made of the words is
+// printed, and nothing after a complaint.
+pub fn run<const WORDS: usize, const PAGE: usize, P: FnOnce(&[u32], &mut [u8]) -> usize>(
+    rt: &impl Env,
+    program: &[u8],
+    kind: Kind,
+    page: P,
+)
+    requires rooms { (most_arguments kind ≤ WORDS) × (WORDS < 2 ^ 61) × (PAGE < 2 ^ 63) }
+    requires page_may { (i : _) (o : _) → length i.now ≤ most_arguments kind → length o.now ≡ PAGE → P.pre page i o }
+    requires page_fits { (i : _) (o : _) (n : _) (u : _) → length i.now ≤ most_arguments kind → length o.now ≡ PAGE → P.post page i o n u → n ≤ PAGE }
+{
+    let mut list = [0u32; WORDS];
+    let Some(n) = read(rt, program, kind, &mut list) else {
+        return;
+    };
+    let mut out = [0u8; PAGE];
+    let end = page(&list[..n], &mut out);
+    output::print(program, &out[..end]);
 }

@@ -1,9 +1,12 @@
--- The laws of signed numbers and guards: the code's comparison is the signed one, and the list that is made for the full range has it. Assumes nothing.
-use Rattle.std.proofs.Common.{◌≡◌, ℕ, suc, ◌+◌, ◌-◌, ◌*◌, ◌%◌, ◌^◌, ◌<◌, ◌≤◌, Bool, true, false, not, ltb, List, pos, negsuc, sym, refl, ◌∙◌, arith, ltb-false, ltb-true, le-ltb, lt-ltb, eq-eqb, ne_eqb}
-use lib.Signed.{lt_z}
+-- The laws of signed numbers and guards: the code's comparison is the signed one, and the list that is made for the full range has it.
+-- Assumes nothing.
+use Rattle.std.proofs.Common.{◌≡◌, ℕ, suc, ◌+◌, ◌-◌, ◌*◌, ◌%◌, ◌^◌, ◌<◌, ◌≤◌, false, ltb, pos, negsuc, int_lt, ◌∙◌, arith}
+use Rattle.std.proofs.Common.{le-ltb, lt-ltb, eq-eqb, ne_eqb}
+use Rattle.std.proofs.lemmas.Int.{ints}
+use Rattle.std.proofs.lemmas.Bool.Decides.{nat_tests}
 use Rattle.base.proofs.Tables.{tabulate_at}
 use Rattle.guard.specs.Signed.{signed, lowest, highest}
-use Rattle.guard.specs.Guards.{low_of, high_of, admits, Full, full_end, full_range}
+use Rattle.guard.specs.Guards.{Full, full_end, full_range}
 
 -- ---- a word read as a signed number
 
@@ -22,48 +25,22 @@ module _ (w : ℕ) where
   unfolding signed
   negative h l = rw (le-ltb w half h, lt-ltb w word l)
 
--- two tests of order that hold together give the same
-same_test : (a b c d : ℕ) → (a < b → c < d) → (b ≤ a → d ≤ c) → ltb a b ≡ ltb c d
-same_test a b c d up down = go (ltb a b) refl
-  where
-    go : (t : Bool) → ltb a b ≡ t → ltb a b ≡ ltb c d
-    go true e = e ∙ sym (lt-ltb c d (up (ltb-true a b e)))
-    go false e = e ∙ sym (le-ltb c d (down (ltb-false a b e)))
-
 -- the word with 2^31 added, modulo 2^32
 abbrev pub moved : ℕ → ℕ
 moved w = (w + lowest) % word
 
 -- "the code's comparison is the signed one": the order of signed numbers is that of the moved words, for every pair of words
-pub signed_order : (x y : ℕ) → x < word → y < word → lt_z (signed x) (signed y) ≡ ltb (moved x) (moved y)
-signed_order x y k l = go (ltb x half) (ltb y half) refl refl
-  where
-    go : (a b : Bool) → ltb x half ≡ a → ltb y half ≡ b → lt_z (signed x) (signed y) ≡ ltb (moved x) (moved y)
-    go true true e f =
-        let u = ltb-true x half e in
-        let v = ltb-true y half f in
-        rw (not_negative x u, not_negative y v) (same_test x y (moved x) (moved y) (λ h. omega arith) (λ h. omega arith))
-    go true false e f =
-        let u = ltb-true x half e in
-        let v = ltb-false y half f in
-        rw (not_negative x u, negative y v l) (sym (le-ltb (moved x) (moved y) (omega arith)))
-    go false true e f =
-        let u = ltb-false x half e in
-        let v = ltb-true y half f in
-        rw (negative x u k, not_negative y v) (sym (lt-ltb (moved x) (moved y) (omega arith)))
-    go false false e f =
-        let u = ltb-false x half e in
-        let v = ltb-false y half f in
-        rw (negative x u k, negative y v l)
-        (same_test (word - suc y) (word - suc x) (moved x) (moved y) (λ h. omega arith) (λ h. omega arith))
+pub signed_order : (x y : ℕ) → x < word → y < word → int_lt (signed x) (signed y) ≡ ltb (moved x) (moved y)
+unfolding signed
+signed_order x y k l = grind (arith, ints, nat_tests)
 
 -- ---- the full range
 
 -- no word is below the smallest number, and none above the largest
-pub none_lower : (v : ℕ) → v < word → lt_z (signed v) (signed lowest) ≡ false
+pub none_lower : (v : ℕ) → v < word → int_lt (signed v) (signed lowest) ≡ false
 none_lower v h = signed_order v lowest h (omega arith) ∙ le-ltb (moved v) (moved lowest) (omega arith)
 
-pub none_higher : (v : ℕ) → v < word → lt_z (signed highest) (signed v) ≡ false
+pub none_higher : (v : ℕ) → v < word → int_lt (signed highest) (signed v) ≡ false
 none_higher v h = signed_order highest v (omega arith) h ∙ le-ltb (moved highest) (moved v) (omega arith)
 
 -- the list that is made for the full range has it, for every cell whose pair lies in it
@@ -74,14 +51,3 @@ full_range_lem n T h c l =
       low_is = tabulate_at full_end n (2 * c) (omega arith) ∙ rw (eq-eqb (2 * c % 2) 0 (omega arith));
       high_is = tabulate_at full_end n (2 * c + 1) (omega arith) ∙ rw (ne_eqb ((2 * c + 1) % 2) 0 (λ z. omega arith));
     }
-
--- ---- the cases that the code tells apart
-
-module _ (g : List ℕ) (c v : ℕ) where
-  pub too_low : lt_z (signed v) (signed (low_of g c)) ≡ true → admits g c v ≡ false
-  unfolding admits
-  too_low e = rw e
-
-  pub high_enough : lt_z (signed v) (signed (low_of g c)) ≡ false → admits g c v ≡ not (lt_z (signed (high_of g c)) (signed v))
-  unfolding admits
-  high_enough e = rw e

@@ -13,14 +13,16 @@ pub const HIGHEST: u32 = 2147483647;
 // How many words a cell has in a guard list: its low end and its high one.
 pub const ENDS: usize = 2;
 
-// Whether a word is less than another, both read as signed numbers. With 2^31 added to both, modulo 2^32, the order of signed numbers is that of words.
+// Whether a word is less than another, both read as signed numbers: with 2^31 added to both, modulo 2^32, their order is that of words.
+#[tactic(auto, using(crate::proofs::Laws::signed_order))]
 pub fn less(x: u32, y: u32) -> bool
     ensures { result ≡ int_lt (signed x) (signed y) }
 {
-    std::num::wrapping_add_u32(x, LOWEST) < std::num::wrapping_add_u32(y, LOWEST)
+    x.wrapping_add(LOWEST) < y.wrapping_add(LOWEST)
 }
 
 // Check 14: whether a list has a pair for each of so many cells.
+#[tactic(auto, unfolding(crate::specs::Guards::pairs_for))]
 pub fn pairs_for(cells: usize, guards: &[u32]) -> bool
     requires { cells < 65536 }
     ensures { result ≡ pairs_for cells guards.now }
@@ -29,6 +31,7 @@ pub fn pairs_for(cells: usize, guards: &[u32]) -> bool
 }
 
 // Whether a cell's guard lets a value in.
+#[tactic(auto, unfolding(crate::specs::Guards::admits))]
 pub fn admits(guards: &[u32], cell: usize, value: u32) -> bool
     requires { guard_words cell + 1 < length guards.now }
     ensures { result ≡ admits guards.now cell value }
@@ -41,21 +44,19 @@ pub fn admits(guards: &[u32], cell: usize, value: u32) -> bool
 }
 
 // The end of the full range that stands at a place of a list.
+#[tactic(auto, unfolding(crate::specs::Guards::full_end))]
 fn full_end(at: usize) -> u32
     ensures { result ≡ full_end at }
 {
-    if at % ENDS == 0 {
-        return LOWEST;
-    }
-    HIGHEST
+    if at % ENDS == 0 { LOWEST } else { HIGHEST }
 }
 
 // The list becomes one that lets every value into every cell.
+#[tactic(auto, using(base::proofs::Tables::tabulate_is))]
 pub fn full_range(guards: &mut [u32])
     ensures { guards.new ≡ full_range (length guards.old) }
 {
-    let n = guards.len();
-    for i in 0..n {
-        guards[i] = full_end(i);
+    for (i, end) in guards.iter_mut().enumerate() {
+        *end = full_end(i);
     }
 }

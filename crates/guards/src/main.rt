@@ -2,13 +2,12 @@
 // line on standard error, and nothing is written.
 #![tactic(auto)]
 
+use arguments::Kind;
+
+const ENDS: usize = guard::ENDS * image::Image::CELLS;
+
 fn main(rt: HostRuntime) {
-    let mut guards = [0u32; guard::ENDS * image::Image::CELLS];
-    let ends = from_arguments::read(&rt, b"guards", arguments::Kind::Ends, &mut guards);
-    if ends == 0 {
-        return;
-    }
-    let mut page = prefix::guards_room();
-    let end = prefix::put_guards(&mut page, &guards[0..ends]);
-    output::print(b"guards", &page[0..end]);
+    from_arguments::run::<ENDS, { prefix::MOST_GUARDS }, _>(&rt, b"guards", Kind::Ends, |ends, page| {
+        prefix::put_guards(page, ends)
+    });
 }

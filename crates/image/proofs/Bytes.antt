@@ -2,23 +2,25 @@
 -- number where each byte's are, and a skip that stays in the program is below 32, so that one number and one skip decide. Assumes nothing.
 use Prim.Native.Nat.{ℕ, ◌+◌, ◌-◌, ◌*◌, ◌/◌, ◌%◌, ◌^◌, ◌≤◌, ◌<◌, zero, suc}
 use mathlib.Core.Path.{◌≡◌, refl, sym, ap, ap₂, ◌∙◌}
-use mathlib.Core.Bool.{Bool, true, false, not, cond, ◌&&◌, and-true}
+use mathlib.Core.Bool.{Bool, true, false, cond, ◌&&◌, and-true}
 use native.Mathlib.Nat.{zero-mul, zero-mod, mod-eq_of_lt, div-eq_of_lt}
 use native.Mathlib.Omega.{arith}
+use Rattle.std.specs.Prelude.{Option, Some, None, Ok, Err}
+use Rattle.std.specs.Option.{ok_or, unwrap_or}
 use lib.Bits.{bit_and, and_block, and_high, and_mask, and_zero_r}
 use lib.Dec.{eqb, ltb, leb}
 use lib.ListN.{get_or-eq_default}
 use borrow.Author.Tests.{ltb-true, ltb-false, leb-true, eqb-true, lt-ltb, le-ltb, le-leb, eq-eqb, ne_eqb}
 use Rattle.base.proofs.Bools.{and_both, both_and, and_false, same_test}
-use Rattle.image.specs.declared.Refusal.{Refusal}
+use Rattle.image.specs.declared.refusals.Fault.{Fault}
+use Rattle.image.specs.declared.refusals.Fault.TheVariants.{Operation, Register, Unused, Skip}
 use Rattle.image.specs.declared.instruction.Row.{Row}
 use Rattle.image.specs.Limits.{max_instructions, registers}
-use Rattle.image.specs.Refusals as refusal
-use Rattle.image.specs.Refusals.{refusing_at, check, passes, placed}
+use Rattle.image.specs.Refusals.{passes}
 use Rattle.image.specs.Instruction.{Kind, register, unused, skip, free, Kinds, kinds, rows, known, kinds_of}
 use Rattle.image.specs.Instruction.{register_good, unused_good, skip_good, each, first_bad, fault_of}
-use Rattle.image.specs.Bits.{zeros, packed, bits_of, row_of, ByKind}
-use Rattle.image.proofs.Refusing.{fails, goes_on, number_of}
+use Rattle.image.specs.Bits.{zeros, packed, bits_of, kinds_row, row_of, ByKind}
+use Rattle.image.proofs.Refusing.{check_passes}
 
 -- ---- the kinds, as the code has them
 
@@ -72,34 +74,67 @@ lands i m byte h =
     (λ e. let l = ltb-true byte (m - i) e in le-leb (i + 1 + byte) m (omega arith))
     (λ e. let l = leb-true (i + 1 + byte) m e in lt-ltb byte (m - i) (omega arith))
 
+pub ruleset by_kind = (of_this, of_another, asks_register, asks_unused, asks_skip, lands)
+
 -- ---- the rows
 
-module _ (op : ℕ) {row : Row} (is : row ≡ row_of op) where
-  pub row_known : row.known ≡ known op
-  unfolding row_of
-  row_known = ap (λ (r : Row). r.known) is
+-- an operation that is not known has none
+free_kinds : (op : ℕ) → known op ≡ false → kinds_of op ≡ kinds free free free
+unfolding known kinds_of rows
+free_kinds op e = get_or-eq_default rows (kinds free free free) (ltb-false op 9 e)
 
-  row_a : row.a ≡ zeros (kinds_of op).a
-  unfolding row_of
-  row_a = ap (λ (r : Row). r.a) is
+some_row : (op : ℕ) → known op ≡ true → Some (kinds_row (kinds_of op)) ≡ row_of op
+unfolding row_of
+some_row op e = rw e
 
-  row_b : row.b ≡ zeros (kinds_of op).b
-  unfolding row_of
-  row_b = ap (λ (r : Row). r.b) is
+none_row : (op : ℕ) → known op ≡ false → None ≡ row_of op
+unfolding row_of
+none_row op e = rw e
 
-  row_c : row.c ≡ zeros (kinds_of op).c
+-- whether an operation has a row, as the code asks for it
+module _ (op : ℕ) {found : Option Row} (is : found ≡ row_of op) where
+  pub row_there : {row : Row} → ok_or found Operation ≡ Ok row → (known op ≡ true) × (row ≡ kinds_row (kinds_of op))
   unfolding row_of
-  row_c = ap (λ (r : Row). r.c) is
+  row_there {row} e = go (known op) refl is
+    where
+      go : (b : Bool) → known op ≡ b → found ≡ cond b (Some (kinds_row (kinds_of op))) None → (known op ≡ true) × (row ≡ kinds_row (kinds_of op))
+      go true k f = let h = rw f at e in (k, cc)
+      go false k f = let h = rw f at e in absurd (cc)
 
+  pub row_missing : {e : Fault} → ok_or found Operation ≡ Err e → (known op ≡ false) × (e ≡ Operation)
+  unfolding row_of
+  row_missing {e} g = go (known op) refl is
+    where
+      go : (b : Bool) → known op ≡ b → found ≡ cond b (Some (kinds_row (kinds_of op))) None → (known op ≡ false) × (e ≡ Operation)
+      go true k f = let h = rw f at g in absurd (cc)
+      go false k f = let h = rw f at g in (k, cc)
+
+  pub row_or : {row : Row} → row ≡ unwrap_or found (kinds_row (kinds free free free)) → row ≡ kinds_row (kinds_of op)
+  unfolding row_of
+  row_or {row} e = e ∙ go (known op) refl is
+    where
+      go : (b : Bool) → known op ≡ b → found ≡ cond b (Some (kinds_row (kinds_of op))) None → unwrap_or found (kinds_row (kinds free free free)) ≡ kinds_row (kinds_of op)
+      go true k f = rw f
+      go false k f = rw (f, free_kinds op k)
+
+module _ (op : ℕ) {row : Row} (is : row ≡ kinds_row (kinds_of op)) where
   -- each of the three bytes was tested by its kind in the row
   pub each_tested : {a b c : ℕ} {x y z r : Bool} (test : Kind → ℕ → Bool) → ByKind row.a (λ k. test k a) x → ByKind row.b (λ k. test k b) y
       → ByKind row.c (λ k. test k c) z → r ≡ x && y && z → r ≡ each test (kinds_of op) a b c
-  each_tested test p q s e = e ∙ rw (p.of_kind _ row_a, q.of_kind _ row_b, s.of_kind _ row_c)
+  each_tested test p q s e =
+      e ∙ rw (p.of_kind _ (ap (λ (r : Row). r.a) is), q.of_kind _ (ap (λ (r : Row). r.b) is), s.of_kind _ (ap (λ (r : Row). r.c) is))
 
   -- and two of them, where the first is wanted that does not pass
   pub first_tested : {a b : ℕ} (c : ℕ) {x y : Bool} {r : ℕ} (test : Kind → ℕ → Bool) → ByKind row.a (λ k. test k a) x → ByKind row.b (λ k. test k b) y
       → r ≡ cond x (cond y c b) a → r ≡ first_bad test (kinds_of op) a b c
-  first_tested c test p q e = e ∙ rw (p.of_kind _ row_a, q.of_kind _ row_b)
+  first_tested c test p q e = e ∙ rw (p.of_kind _ (ap (λ (r : Row). r.a) is), q.of_kind _ (ap (λ (r : Row). r.b) is))
+
+pub ruleset by_row = (row_or, first_tested)
+
+-- one name that opens the table and the bits that the code has of it
+unfoldable pub table : Unit {0}
+unfolding rows known kinds_of zeros bits_of
+table = tt
 
 -- "Operations 9 to 255 are bad": they have no row
 pub no_bits : (op : ℕ) → 9 ≤ op → 255 ≡ bits_of op
@@ -148,38 +183,20 @@ byte_3 : (w x y z : ℕ) → w < 256 → x < 256 → y < 256 → z < 256 → pac
 byte_3 w x y z hw hx hy hz = omega arith
 
 -- the row that the bits are
-free_kinds : (op : ℕ) → known op ≡ false → kinds_of op ≡ kinds free free free
-unfolding known kinds_of rows
-free_kinds op e = get_or-eq_default rows (kinds free free free) (ltb-false op 9 e)
+module _ (op : ℕ) {bits : ℕ} (is : bits ≡ bits_of op) where
+  pub no_bits_row : bits ≡ 255 → None ≡ row_of op
+  no_bits_row e = none_row op (told_unknown op is e)
 
-pub bits_row : (op : ℕ) {bits : ℕ} → bits ≡ bits_of op
-    → record { known = not (eqb bits 255); a = bits / 256 % 256; b = bits / 65536 % 256; c = bits / 16777216 % 256 } ≡ row_of op
-unfolding row_of zeros
-bits_row op {bits} is = go (known op) refl
-  where
-    go : (b : Bool) → known op ≡ b
-        → record { known = not (eqb bits 255); a = bits / 256 % 256; b = bits / 65536 % 256; c = bits / 16777216 % 256 } ≡ row_of op
-    go true e =
-        let is_packed = bits_known op is e in
-        let ha = zeros_byte (kinds_of op).a in
-        let hb = zeros_byte (kinds_of op).b in
-        let hc = zeros_byte (kinds_of op).c in
-        let other : eqb bits 255 ≡ false = ne_eqb bits 255 (λ z. omega (arith, is_packed, z)) in
-        λ j. record {
-          known = (ap not other ∙ sym e) j;
-          a = (ap (λ (n : ℕ). n / 256 % 256) is_packed ∙ byte_1 240 _ _ _ (omega arith) ha hb) j;
-          b = (ap (λ (n : ℕ). n / 65536 % 256) is_packed ∙ byte_2 240 _ _ _ (omega arith) ha hb) j;
-          c = (ap (λ (n : ℕ). n / 16777216 % 256) is_packed ∙ byte_3 240 _ _ _ (omega arith) ha hb hc) j;
-        }
-    go false e =
-        let is_255 = bits_unknown op is e in
-        let k = free_kinds op e in
-        λ j. record {
-          known = (ap (λ (n : ℕ). not (eqb n 255)) is_255 ∙ sym e) j;
-          a = (ap (λ (n : ℕ). n / 256 % 256) is_255 ∙ sym (ap (λ (k : Kinds). zeros k.a) k)) j;
-          b = (ap (λ (n : ℕ). n / 65536 % 256) is_255 ∙ sym (ap (λ (k : Kinds). zeros k.b) k)) j;
-          c = (ap (λ (n : ℕ). n / 16777216 % 256) is_255 ∙ sym (ap (λ (k : Kinds). zeros k.c) k)) j;
-        }
+  pub bits_row : (bits ≡ 255 → ⊥) → Some (record { a = bits / 256 % 256; b = bits / 65536 % 256; c = bits / 16777216 % 256 }) ≡ row_of op
+  bits_row h =
+      let e = told_known op is h in
+      let is_packed = bits_known op is e in
+      let ha = zeros_byte (kinds_of op).a in
+      let hb = zeros_byte (kinds_of op).b in
+      let hc = zeros_byte (kinds_of op).c in
+      rw is_packed
+      (rw (byte_1 240 _ _ (zeros (kinds_of op).c) (omega arith) ha hb, byte_2 240 _ _ (zeros (kinds_of op).c) (omega arith) ha hb, byte_3 240 _ _ _ (omega arith) ha hb hc)
+      (some_row op e))
 
 -- "6 skipless, 7 skipequal": c alone is a skip's length
 skip_last : (i m a b c op : ℕ) → each (skip_good i m) (kinds_of op) a b c ≡ skip_good i m (kinds_of op).c c
@@ -254,11 +271,6 @@ each_both f g k a b c =
     and_swapped (f k.a a && f k.b b) (f k.c c) (g k.a a && g k.b b) (g k.c c)
     ∙ ap (λ (t : Bool). t && (f k.c c && g k.c c)) (and_swapped (f k.a a) (f k.b b) (g k.a a) (g k.b b))
 
-passes_check : (holds : Bool) (gives rest : Refusal) → passes gives ≡ false → passes (check holds gives rest) ≡ holds && passes rest
-unfolding check
-passes_check true gives rest e = refl
-passes_check false gives rest e = e
-
 -- it is good where each byte is
 good_each : (op a b c i m : ℕ)
     → passes (fault_of op a b c i m) ≡ known op && each (λ k x. register_good k x && (unused_good k x && skip_good i m k x)) (kinds_of op) a b c
@@ -266,12 +278,12 @@ unfolding fault_of
 good_each op a b c i m =
     let k = kinds_of op in
     let all : (Kind → ℕ → Bool) → Bool = λ test. each test k a b c in
-    passes_check (known op) refusal.operation _ refl
+    check_passes (known op) Operation _
     ∙ ap (λ (t : Bool). known op && t)
-    (passes_check (all register_good) refusal.register _ refl
+    (check_passes (all register_good) Register _
     ∙ ap (λ (t : Bool). all register_good && t)
-    (passes_check (all unused_good) refusal.unused _ refl
-    ∙ ap (λ (t : Bool). all unused_good && t) (passes_check (all (skip_good i m)) refusal.skip _ refl ∙ and-true (all (skip_good i m)))
+    (check_passes (all unused_good) Unused _
+    ∙ ap (λ (t : Bool). all unused_good && t) (check_passes (all (skip_good i m)) Skip _ ∙ and-true (all (skip_good i m)))
     ∙ each_both unused_good (skip_good i m) k a b c)
     ∙ each_both register_good (λ l x. unused_good l x && skip_good i m l x) k a b c)
 
@@ -279,7 +291,7 @@ pub unknown_bad : (op a b c i m : ℕ) → known op ≡ false → passes (fault_
 unknown_bad op a b c i m e = good_each op a b c i m ∙ rw e
 
 -- one number of bits and one skip decide
-pub bits_and_skip : (op a b c i m : ℕ) {bits : ℕ} → bits ≡ bits_of op → (bits ≡ 255 → ⊥) → a < 256 → b < 256 → c < 256 → m ≤ max_instructions
+bits_and_skip : (op a b c i m : ℕ) {bits : ℕ} → bits ≡ bits_of op → (bits ≡ 255 → ⊥) → a < 256 → b < 256 → c < 256 → m ≤ max_instructions
     → passes (fault_of op a b c i m) ≡ eqb (bit_and (packed op a b c) bits) 0 && skip_good i m (kinds_of op).c c
 unfolding known rows
 bits_and_skip op a b c i m is other ha hb hc l =
@@ -302,17 +314,20 @@ bits_and_skip op a b c i m is other ha hb hc l =
     (sym (each_both bits (skip_good i m) k a b c) ∙ ap (λ (t : Bool). each bits k a b c && t) (skip_last i m a b c op))
 
 -- the kind of c
-pub bits_c : (op : ℕ) {bits : ℕ} → bits ≡ bits_of op → bits / 16777216 % 256 ≡ zeros (kinds_of op).c
-unfolding row_of
-bits_c op is = ap (λ (r : Row). r.c) (bits_row op is)
+bits_c : (op : ℕ) {bits : ℕ} → bits ≡ bits_of op → (bits ≡ 255 → ⊥) → bits / 16777216 % 256 ≡ zeros (kinds_of op).c
+bits_c op is other =
+    let k = kinds_of op in
+    ap (λ (n : ℕ). n / 16777216 % 256) (bits_known op is (told_known op is other))
+    ∙ byte_3 240 (zeros k.a) (zeros k.b) (zeros k.c) (omega arith) (zeros_byte k.a) (zeros_byte k.b) (zeros_byte k.c)
 
--- ---- where it stands
+-- as the code has them
+pub bits_bad : (op a b c i m : ℕ) {bits four : ℕ} → bits ≡ bits_of op → (bits ≡ 255 → ⊥) → a < 256 → b < 256 → c < 256 → m ≤ max_instructions
+    → four ≡ packed op a b c → (bit_and four bits ≡ 0 → ⊥) → false ≡ passes (fault_of op a b c i m)
+bits_bad op a b c i m is other ha hb hc l e h = sym (bits_and_skip op a b c i m is other ha hb hc l ∙ rw (sym e, ne_eqb _ 0 h))
 
-module _ (p i : ℕ) {r s : Refusal} (is : r ≡ s) where
-  pub nothing_placed : r.number ≡ 0 → refusal.none ≡ placed p i s
-  unfolding placed
-  nothing_placed e = goes_on _ (eq-eqb s.number 0 (number_of (sym is) ∙ e)) refl
+pub bits_decide : (op a b c i m : ℕ) {bits four : ℕ} {r : Bool} → bits ≡ bits_of op → (bits ≡ 255 → ⊥) → a < 256 → b < 256 → c < 256 → m ≤ max_instructions
+    → four ≡ packed op a b c → bit_and four bits ≡ 0 → ByKind (bits / 16777216 % 256) (λ k. skip_good i m k c) r → r ≡ passes (fault_of op a b c i m)
+bits_decide op a b c i m is other ha hb hc l e z k =
+    k.of_kind _ (bits_c op is other) ∙ sym (bits_and_skip op a b c i m is other ha hb hc l ∙ rw (sym e, eq-eqb _ 0 z))
 
-  pub placed_there : (r.number ≡ 0 → ⊥) → refusing_at r.number p i ≡ placed p i s
-  unfolding placed
-  placed_there h = rw (number_of is) (fails refusal.none (ne_eqb s.number 0 (λ e. h (number_of is ∙ e))))
+pub ruleset by_bits = (told_unknown, unknown_bad, bits_bad)

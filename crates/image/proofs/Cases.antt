@@ -7,8 +7,13 @@ use mathlib.Core.List.{List, [], ◌∷◌, ◌++◌, map}
 use lib.ListN.{length, take, replicate}
 use denote.Ref.{Bor}
 use Rattle.image.specs.Limits.{max_programs, max_instructions, registers, min_cells, max_cells, instruction_bytes, max_program_bytes, head_bytes, min_bytes, max_bytes}
-use Rattle.image.specs.declared.Refusal.{Refusal}
-use Rattle.image.specs.Refusals as refusal
+use Rattle.std.specs.Prelude.{Err}
+use Rattle.image.specs.declared.refusals.Fault.{Fault}
+use Rattle.image.specs.declared.refusals.Fault.TheVariants as fault
+use Rattle.image.specs.declared.refusals.ImageRefusal.TheVariants.{Size, Header, Offsets, Instruction}
+use Rattle.image.specs.declared.refusals.Refusal.{Refusal}
+use Rattle.image.specs.declared.refusals.Refusal.TheVariants as lent
+use Rattle.image.specs.Refusals.{none, refusing_at, fault_number, numbers_of, line, passed, told, told_of_image}
 use Rattle.image.specs.Image.{number_at, header_of, second_rule, offset_of, part_of, refusal_of, program_refusal_of, program_of, start_of, ProgramSays, ProgramRefusalSays}
 use Rattle.image.specs.Opened.{opened}
 use Rattle.image.specs.Assembler.{instruction, end, set, reject, program, fields, image}
@@ -16,11 +21,11 @@ use Rattle.image.specs.Bench.{example_1, example_2, example_3, empty}
 
 -- the refusal's number of each of these images, 0 for none
 abbrev pub refusals : List (List ℕ) → List ℕ
-refusals = map (λ i. (refusal_of i).number)
+refusals = map (λ i. (told_of_image (refusal_of i)).number)
 
 -- the refusal's number where a program is asked for
 abbrev program_refusal : List ℕ → ℕ → ℕ
-program_refusal i p = (program_refusal_of i p).number
+program_refusal i p = (told (program_refusal_of i p)).number
 
 -- ---- "Sizes"
 
@@ -158,29 +163,38 @@ bench_sheet = refl
 
 -- ---- "What each refusal says"
 
--- the column "no."
+-- the column "no.": "0 done" of what has passed, and a number for each refusal
+done : told passed ≡ none
+done = refl
+
 abbrev named : List Refusal
 named =
-    refusal.none ∷ refusal.image_size ∷ refusal.header ∷ refusal.offsets ∷ refusal.table_size ∷ refusal.area_size ∷ refusal.area ∷ refusal.number
-    ∷ refusal.state ∷ refusal.too_short ∷ refusal.too_many ∷ refusal.no_order ∷ []
+    lent.Image Size ∷ lent.Image Header ∷ lent.Image Offsets ∷ lent.TableSize ∷ lent.AreaSize ∷ lent.Area ∷ lent.Number
+    ∷ lent.State ∷ lent.TooShort ∷ lent.TooMany ∷ lent.NoOrder ∷ []
 
-numbers : map (λ r. r.number) named ≡ 0 ∷ 1 ∷ 2 ∷ 3 ∷ 5 ∷ 6 ∷ 7 ∷ 8 ∷ 9 ∷ 10 ∷ 11 ∷ 12 ∷ []
+numbers : none.number ∷ map (λ r. (numbers_of r).number) named ≡ 0 ∷ 1 ∷ 2 ∷ 3 ∷ 5 ∷ 6 ∷ 7 ∷ 8 ∷ 9 ∷ 10 ∷ 11 ∷ 12 ∷ []
 numbers = refl
 
 -- document 02, ask 2: "41 unknown operation, 42 register over 7, 43 an unused byte not 0, 44 skip past the end"
-abbrev faults : List Refusal
-faults = refusal.operation ∷ refusal.register ∷ refusal.unused ∷ refusal.skip ∷ []
+abbrev faults : List Fault
+faults = fault.Operation ∷ fault.Register ∷ fault.Unused ∷ fault.Skip ∷ []
 
-numbers_of_faults : map (λ r. r.number) faults ≡ 41 ∷ 42 ∷ 43 ∷ 44 ∷ []
+numbers_of_faults : map fault_number faults ≡ 41 ∷ 42 ∷ 43 ∷ 44 ∷ []
 numbers_of_faults = refl
 
--- document 02, ask 3: "13 this program is not carried; 15 its detail is not the reason .."
-numbers_of_why_lem : (refusal.not_carried).number ∷ (refusal.reason).number ∷ [] ≡ 13 ∷ 15 ∷ []
+-- "return program and instruction too": of instruction 3 of program 2, in the image that a call is lent and in the fresh one
+numbers_of_places : map (λ f. numbers_of (lent.Image (Instruction (record { fault = f; program = 2; instruction = 3 })))) faults
+    ≡ refusing_at 41 2 3 ∷ refusing_at 42 2 3 ∷ refusing_at 43 2 3 ∷ refusing_at 44 2 3 ∷ []
+numbers_of_places = refl
+
+-- document 02, ask 3: "13 this program is not carried; 15 its detail is not the reason .."; its ask 5: 14, and ask 1: 51
+numbers_of_why_lem : map (λ r. (numbers_of r).number) (lent.NotCarried ∷ lent.Guards ∷ lent.Reason ∷ []) ++ (line.number ∷ []) ≡ 13 ∷ 14 ∷ 15 ∷ 51 ∷ []
 numbers_of_why_lem = refl
 
 -- "21–24: as 1–4, for the fresh image", "24 by 61 to 64"
-numbers_of_fresh : (map (λ r. (refusal.of_fresh r).number) (refusal.image_size ∷ refusal.header ∷ refusal.offsets ∷ []) ≡ 21 ∷ 22 ∷ 23 ∷ [])
-    × (map (λ r. (refusal.of_fresh r).number) faults ≡ 61 ∷ 62 ∷ 63 ∷ 64 ∷ [])
+numbers_of_fresh : (map (λ r. (numbers_of (lent.Fresh r)).number) (Size ∷ Header ∷ Offsets ∷ []) ≡ 21 ∷ 22 ∷ 23 ∷ [])
+    × (map (λ f. numbers_of (lent.Fresh (Instruction (record { fault = f; program = 2; instruction = 3 })))) faults
+    ≡ refusing_at 61 2 3 ∷ refusing_at 62 2 3 ∷ refusing_at 63 2 3 ∷ refusing_at 64 2 3 ∷ [])
 numbers_of_fresh = (refl, refl)
 
 -- "Checks go in the row order": 1 before 2 (rule 3 in 5 bytes), 2 before 3 (65 programs in 6 bytes), 3 before 41 (a byte too many after operation 9)
@@ -224,6 +238,7 @@ unfolding opened
 program_says i r e s =
     (s.part.bytes_are ∙ ap (λ (x : List ℕ). program_of x 1) e, s.part.lies_at ∙ ap (λ (x : List ℕ). (i.ref_ptr.0, start_of x 1 + i.ref_ptr.1)) e)
 
-program_refusal_says : ProgramRefusalSays two 1 refusal.none × ProgramRefusalSays two 2 refusal.number × ProgramRefusalSays bad 0 refusal.operation
+program_refusal_says : ProgramRefusalSays two 1 passed × ProgramRefusalSays two 2 (Err lent.Number)
+    × ProgramRefusalSays bad 0 (Err (lent.Image (Instruction (record { fault = fault.Operation; program = 0; instruction = 0 }))))
 unfolding opened
 program_refusal_says = (record { answer = refl }, record { answer = refl }, record { answer = refl })

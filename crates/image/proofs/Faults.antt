@@ -1,10 +1,10 @@
 -- Laws of the first bad instruction: a program is good where none is found, and one that is found is the first. Assumes nothing.
-use mathlib.Core.Path.{◌≡◌, refl, sym}
-use mathlib.Core.Bool.{Bool, true, false}
+use mathlib.Core.Path.{◌≡◌}
+use mathlib.Core.Bool.{true, false}
 use mathlib.Core.List.{List}
 use Prim.Native.Nat.{ℕ, ◌<◌}
 use Rattle.base.specs.Words.{every}
-use Rattle.base.proofs.Numbers.{every_at}
+use Rattle.base.proofs.Numbers.{every_at, every_none, every_more}
 use Rattle.image.specs.declared.refusals.Fault.{Fault}
 use Rattle.image.specs.declared.refusals.Fault.TheVariants as fault
 use Rattle.image.specs.declared.refusals.BadInstruction.{BadInstruction}
@@ -62,6 +62,9 @@ module _ (p : ℕ) (program : List ℕ) where
       → placed p i (fault_at program i) ≡ program_fault p program
   unfolding program_fault
   program_found i l = firsts_found _ (place_good program) place_is (instructions_of program) i l
+
+-- a loop over the instructions of a program
+pub ruleset instruction_by_instruction = (every_none, every_more, program_none, program_found)
 
 -- ---- several programs
 

@@ -1,5 +1,5 @@
 -- Laws of the image's definitions: callers cite these and do not unfold. Assumes nothing.
-use mathlib.Core.Path.{◌≡◌, refl, sym, ap, ◌∙◌}
+use mathlib.Core.Path.{◌≡◌, refl, sym, ◌∙◌}
 use mathlib.Core.Bool.{true, false, ◌&&◌}
 use mathlib.Core.List.{List, [], ◌∷◌}
 use Prim.Native.Nat.{ℕ, zero, suc, ◌+◌, ◌-◌, ◌%◌, ◌≤◌, ◌<◌}
@@ -12,7 +12,7 @@ use lib.Seq.{get_or-drop}
 use lib.Dec.{leb, ltb, eqb}
 use Rattle.base.specs.Words.{every, words}
 use Rattle.base.proofs.Bools.{and_left, and_both}
-use Rattle.base.proofs.Numbers.{every_at, every_false}
+use Rattle.base.proofs.Numbers.{every_at, every_none, every_more, every_false}
 use Rattle.base.proofs.Parts.{words_length}
 use Rattle.image.specs.Limits.{max_programs, instruction_bytes, max_program_bytes, head_bytes}
 use Rattle.image.specs.declared.refusals.ImageRefusal.TheVariants as refused
@@ -22,8 +22,8 @@ use Rattle.image.specs.Refusals.{passed, passes, told, told_of_image, WellPlaced
 use Rattle.image.specs.Instruction.{instructions_of, program_fault, place_good, program_good}
 use Rattle.image.specs.Image.{byte_at, count_of, rule_byte, header_of, offset_of, bytes_of, part_of, Lies, size_good, header_good}
 use Rattle.image.specs.Image.{holds_offsets, first_good, rises, whole, short, extent_good, extents_good, last_good, offsets_good, code_good, code_refusal}
-use Rattle.image.specs.Image.{refusal_of, image_checks, fresh_refusal_of, program_refusal_of, program_of, start_of}
-use Rattle.image.proofs.Refusing.{goes_on, none_fails, none_after, is_passed, passed_given, given_passing, unless_refused, unless_done}
+use Rattle.image.specs.Image.{refusal_of, image_checks, fresh_refusal_of, program_refusal_of, program_of, start_of, ProgramRefusalSays}
+use Rattle.image.proofs.Refusing.{Checks, passed_is, goes_on, none_fails, none_after, is_passed, passed_given, given_passing, unless_refused, unless_done}
 use Rattle.image.proofs.Places.{image_told_is, told_image_zero, told_well, told_image_well}
 use Rattle.image.proofs.Faults.{code_passes, code_none, code_found}
 
@@ -111,6 +111,9 @@ pub program_good_lem : (part : List ℕ) (i : ℕ) → i ≡ instructions_of par
 unfolding program_good
 program_good_lem part i e h = rw e at h
 
+-- a loop over the programs and their instructions
+pub ruleset program_by_program = (every_none, every_more, lies, part_short, program_good_lem, program_bad, no_code_refusal, code_refused)
+
 -- it passes exactly where every instruction is good
 pub code_good_is : (image : List ℕ) → passes (code_refusal image) ≡ code_good image
 unfolding code_refusal code_good
@@ -195,3 +198,22 @@ handed_part image p e = (unless_done (program_refusal_of image p) _ _ e, unless_
 pub handed_nothing : (image : List ℕ) (p : ℕ) {e : Refusal} → program_refusal_of image p ≡ Err e → (program_of image p ≡ []) × (start_of image p ≡ 0)
 unfolding program_of start_of
 handed_nothing image p h = (unless_refused (program_refusal_of image p) _ _ h, unless_refused (program_refusal_of image p) _ _ h)
+
+-- all of this, where the code is told that nothing is refused
+pub record Handed (image : List ℕ) (p : ℕ) : Type 0 where
+  pub lies_there : Lies image p
+  pub low : p < max_programs
+  pub part : program_of image p ≡ part_of image p
+  pub start : start_of image p ≡ offset_of image p
+
+pub handed_when : (image : List ℕ) (p : ℕ) {r : Checks Refusal} → ProgramRefusalSays image p r → passes r ≡ true → Handed image p
+handed_when image p {r} says ok =
+    let found = sym says.answer ∙ passed_is r ok in
+    let asked = handed_back image p found in
+    let is = handed_part image p found in
+    record {
+      lies_there = lies image (accepted image asked.0).offsets p asked.1;
+      low = handed_low image p found;
+      part = is.0;
+      start = is.1;
+    }

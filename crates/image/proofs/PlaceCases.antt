@@ -4,7 +4,7 @@ use mathlib.Core.Bool.{true, false}
 use mathlib.Core.Path.{◌≡◌, refl}
 use mathlib.Core.List.{List, [], ◌∷◌, ◌++◌, map}
 use lib.ListN.{replicate}
-use Rattle.image.specs.Refusals.{refusing_at, refusing, says_where}
+use Rattle.image.specs.Refusals.{refusing_at, refusing, told, told_of_image, says_where}
 use Rattle.image.specs.Instruction.{wrong_byte}
 use Rattle.image.specs.Image.{refusal_of, fresh_refusal_of, program_refusal_of}
 use Rattle.image.specs.Opened.{opened}
@@ -37,25 +37,25 @@ abbrev middle : List ℕ → List ℕ
 middle p = image 1 (good ∷ p ∷ good ∷ [])
 
 -- each way, at the first, the middle and the last instruction of the first, a middle and the last program
-firsts : map (λ x. refusal_of (image 1 (three x end end ∷ good ∷ good ∷ []))) ways ≡ refusing_at 41 0 0 ∷ refusing_at 42 0 0 ∷ refusing_at 43 0 0 ∷ refusing_at 44 0 0 ∷ []
+firsts : map (λ x. told_of_image (refusal_of (image 1 (three x end end ∷ good ∷ good ∷ [])))) ways ≡ refusing_at 41 0 0 ∷ refusing_at 42 0 0 ∷ refusing_at 43 0 0 ∷ refusing_at 44 0 0 ∷ []
 unfolding opened
 firsts = refl
 
-middles : map (λ x. refusal_of (middle (three end x end))) ways ≡ refusing_at 41 1 1 ∷ refusing_at 42 1 1 ∷ refusing_at 43 1 1 ∷ refusing_at 44 1 1 ∷ []
+middles : map (λ x. told_of_image (refusal_of (middle (three end x end)))) ways ≡ refusing_at 41 1 1 ∷ refusing_at 42 1 1 ∷ refusing_at 43 1 1 ∷ refusing_at 44 1 1 ∷ []
 unfolding opened
 middles = refl
 
-lasts : map (λ x. refusal_of (image 1 (good ∷ good ∷ three end end x ∷ []))) ways ≡ refusing_at 41 2 2 ∷ refusing_at 42 2 2 ∷ refusing_at 43 2 2 ∷ refusing_at 44 2 2 ∷ []
+lasts : map (λ x. told_of_image (refusal_of (image 1 (good ∷ good ∷ three end end x ∷ [])))) ways ≡ refusing_at 41 2 2 ∷ refusing_at 42 2 2 ∷ refusing_at 43 2 2 ∷ refusing_at 44 2 2 ∷ []
 unfolding opened
 lasts = refl
 
 -- the very last place that there is
-last_place : refusal_of (image 2 (replicate 63 (program (replicate 32 end)) ++ (program (replicate 31 end ++ (unknown ∷ [])) ∷ []))) ≡ refusing_at 41 63 31
+last_place : told_of_image (refusal_of (image 2 (replicate 63 (program (replicate 32 end)) ++ (program (replicate 31 end ++ (unknown ∷ [])) ∷ [])))) ≡ refusing_at 41 63 31
 unfolding opened
 last_place = refl
 
 -- "the first in image order": of two bad instructions the one of the earlier program, and in a program the earlier one, whichever their faults are
-first_in_order : map refusal_of (
+first_in_order : map (λ i. told_of_image (refusal_of i)) (
     image 1 (good ∷ three end too_far unknown ∷ three unknown end end ∷ [])
     ∷ image 1 (good ∷ three end unknown too_far ∷ good ∷ [])
     ∷ image 1 (three end end not_zero ∷ three register_8 end end ∷ good ∷ [])
@@ -64,7 +64,7 @@ unfolding opened
 first_in_order = refl
 
 -- "then in the list below": bad in two and in three ways. An unknown operation has no register, no unused byte and no skip.
-bad_in_several_ways : map (λ x. refusal_of (middle (three x end end))) (
+bad_in_several_ways : map (λ x. told_of_image (refusal_of (middle (three x end end)))) (
     instruction 9 8 8 255
     ∷ instruction 255 255 255 255
     ∷ instruction 2 8 0 1
@@ -79,7 +79,7 @@ unfolding opened
 bad_in_several_ways = refl
 
 -- every other refusal has no place, and none has none
-no_place : map refusal_of ([] ∷ image 3 (good ∷ []) ∷ (image 1 (good ∷ []) ++ (0 ∷ [])) ∷ image 1 (good ∷ []) ∷ [])
+no_place : map (λ i. told_of_image (refusal_of i)) ([] ∷ image 3 (good ∷ []) ∷ (image 1 (good ∷ []) ++ (0 ∷ [])) ∷ image 1 (good ∷ []) ∷ [])
     ≡ refusing 1 ∷ refusing 2 ∷ refusing 3 ∷ refusing 0 ∷ []
 unfolding opened
 no_place = refl
@@ -90,12 +90,12 @@ unfolding opened
 says_where_lem = refl
 
 -- "for the fresh image 24 by 61 to 64", with the place in the fresh image
-fresh : map (λ x. fresh_refusal_of (middle (three end end x))) ways ≡ refusing_at 61 1 2 ∷ refusing_at 62 1 2 ∷ refusing_at 63 1 2 ∷ refusing_at 64 1 2 ∷ []
+fresh : map (λ x. told (fresh_refusal_of (middle (three end end x)))) ways ≡ refusing_at 61 1 2 ∷ refusing_at 62 1 2 ∷ refusing_at 63 1 2 ∷ refusing_at 64 1 2 ∷ []
 unfolding opened
 fresh = refl
 
 -- a program that is asked for: the image's refusal with its place, whichever program it is
-asked : map (program_refusal_of (middle (three end register_8 end))) (0 ∷ 1 ∷ 7 ∷ []) ≡ refusing_at 42 1 1 ∷ refusing_at 42 1 1 ∷ refusing_at 42 1 1 ∷ []
+asked : map (λ p. told (program_refusal_of (middle (three end register_8 end)) p)) (0 ∷ 1 ∷ 7 ∷ []) ≡ refusing_at 42 1 1 ∷ refusing_at 42 1 1 ∷ refusing_at 42 1 1 ∷ []
 unfolding opened
 asked = refl
 

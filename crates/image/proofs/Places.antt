@@ -1,7 +1,7 @@
 -- Laws of the refusals' numbers: none of them is 0, each is that of one refusal, and a place is where the number says so, and nowhere else. Assumes nothing.
 use mathlib.Core.Path.{◌≡◌, refl, sym, ap, ◌∙◌}
 use mathlib.Core.Bool.{Bool, true, false, cond, ◌&&◌, ◌||◌}
-use Prim.Native.Nat.{ℕ, ◌+◌, ◌-◌}
+use Prim.Native.Nat.{ℕ, ◌+◌, ◌-◌, ◌≤◌}
 use native.Mathlib.Omega.{arith}
 use lib.Dec.{eqb, leb}
 use Rattle.std.specs.Prelude.{Ok, Err}
@@ -62,6 +62,28 @@ some refusal.NotCarried e = omega arith
 some refusal.Guards e = omega arith
 some refusal.Reason e = omega arith
 some (refusal.Fresh r) e = omega arith
+
+-- and none is over 64
+pub few : (r : Refusal) → (numbers_of r).number ≤ 64
+few (refusal.Image r) =
+    image_is (λ n. n ≤ 64) (omega arith) (omega arith) (omega arith) (omega arith) (omega arith) (omega arith) (omega arith) r
+few refusal.TableSize = omega arith
+few refusal.AreaSize = omega arith
+few refusal.Area = omega arith
+few refusal.Number = omega arith
+few refusal.State = omega arith
+few refusal.TooShort = omega arith
+few refusal.TooMany = omega arith
+few refusal.NoOrder = omega arith
+few refusal.NotCarried = omega arith
+few refusal.Guards = omega arith
+few refusal.Reason = omega arith
+few (refusal.Fresh r) =
+    image_is (λ n. 20 + n ≤ 64) (omega arith) (omega arith) (omega arith) (omega arith) (omega arith) (omega arith) (omega arith) r
+
+pub told_few : (r : Checks Refusal) → (told r).number ≤ 64
+told_few (Ok done) = omega arith
+told_few (Err r) = few r
 
 -- so 0 is told exactly where all has passed
 pub told_zero : (r : Checks Refusal) → (told r).number ≡ 0 → r ≡ passed

@@ -6,8 +6,9 @@ use Prim.Native.Nat.{ℕ, zero, suc, ◌<◌}
 use native.Mathlib.Nat.{not-suc-le-zero}
 use borrow.Author.Tests.{not-true, not-false}
 use Rattle.std.specs.Prelude.{Result, Ok, Err}
+use Rattle.std.specs.Result.{IsErr, IsErrAnd, MatchResult}
+use Rattle.std.proofs.lemmas.Result.{err_from_is_err_and}
 use Rattle.base.specs.Words.{every}
-use Rattle.base.proofs.Bools.{and_both}
 use Rattle.base.proofs.Numbers.{below}
 use Rattle.image.specs.Refusals.{passed, check, passes, after, first_of, given_as, unless}
 
@@ -141,6 +142,27 @@ given_refuses kind p q = sym (given_refused kind (sym p ∙ q))
 
 pub given_passing : {E F : Type 0} (kind : E → F) {r checks : Checks E} → r ≡ checks → r ≡ passed → passed ≡ given_as kind checks
 given_passing kind p q = sym (given_passed kind (sym p ∙ q))
+
+-- what `?` hands out, of the same kind or as another
+pub handed_out : {E : Type 0} {r : Checks E} {e : E} → IsErr r × IsErrAnd r (λ f. f ≡ e) → r ≡ Err e
+handed_out {r = r} p = let f = err_from_is_err_and r p.1 in f.1 ∙ ap Err f.2
+
+-- what `map_err` makes of what the checks gave, by a closure of which each call gives it, and by a variant
+pub given_through : {E F : Type 0} (kind : E → F) {r checks : Checks E} {x : Checks F} {Q : E → F → Type 0} → r ≡ checks
+    → MatchResult r (λ done. x ≡ Ok done) (λ e. IsErrAnd x (λ f. Q e f)) → ((e : E) (f : F) → Q e f → f ≡ kind e) → x ≡ given_as kind checks
+unfolding given_as
+given_through {E} {F} kind {x = x} {Q = Q} p m gives = rw p at (go _ m)
+  where
+    go : (r : Checks E) → MatchResult r (λ done. x ≡ Ok done) (λ e. IsErrAnd x (λ f. Q e f)) → x ≡ given_as kind r
+    go (Ok done) m = m
+    go (Err e) m = let f = err_from_is_err_and x m in f.1 ∙ ap Err (gives e f.0 f.2)
+
+pub given_by : {E F : Type 0} (kind : E → F) {r checks : Checks E} {x : Checks F} → r ≡ checks
+    → MatchResult r (λ done. x ≡ Ok done) (λ e. IsErrAnd x (λ f. f ≡ kind e)) → x ≡ given_as kind checks
+given_by kind p m = given_through kind {Q = λ e f. f ≡ kind e} p m (λ e f is. is)
+
+-- all of these, for a function that answers check by check
+pub ruleset checking = (fails, goes_on, first_refuses, first_passes, given_refuses, given_passing, handed_out)
 
 -- ---- the first of several, of which a test says whether each passes
 

@@ -1,15 +1,14 @@
 -- A bad instruction that an image is refused for is there: it was found below the counts. Assumes nothing.
-use mathlib.Core.Path.{◌≡◌, refl, sym, ap, ◌∙◌}
+use mathlib.Core.Path.{◌≡◌}
 use mathlib.Core.Bool.{true}
 use mathlib.Core.List.{List}
 use Prim.Native.Nat.{ℕ, zero, suc, ◌<◌}
 use native.Mathlib.Omega.{arith}
 use Rattle.std.specs.Prelude.{Ok, Err}
 use Rattle.image.specs.Limits.{max_programs}
-use Rattle.image.specs.declared.refusals.Fault.{Fault}
 use Rattle.image.specs.declared.refusals.BadInstruction.{BadInstruction}
 use Rattle.image.specs.declared.refusals.ImageRefusal.TheVariants.{Size, Header, Offsets, Instruction}
-use Rattle.image.specs.Refusals.{passed, told_of_image, numbers_of_image, first_of, after, given_as, says_where, placed}
+use Rattle.image.specs.Refusals.{told_of_image, numbers_of_image, first_of, after, says_where, placed}
 use Rattle.image.specs.Instruction.{instructions_of, fault_at, program_fault, code_fault}
 use Rattle.image.specs.Image.{count_of, header_of, part_of, Lies, size_good, header_good, offsets_good, code_refusal, refusal_of}
 use Rattle.image.proofs.Refusing.{Checks, behind, refused_given}

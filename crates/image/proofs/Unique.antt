@@ -26,6 +26,8 @@ use Rattle.image.proofs.fresh_refusal.Kinds as fresh_refusal_kinds
 use Rattle.image.proofs.fresh_refusal.Reads as fresh_refusal
 use Rattle.image.proofs.program_refusal.Kinds as program_refusal_kinds
 use Rattle.image.proofs.program_refusal.Reads as program_refusal
+use Rattle.image.proofs.refusals.RefusalNumbersFromResultUnitRefusal.from.Kinds as told_kinds
+use Rattle.image.proofs.refusals.RefusalNumbersFromResultUnitRefusal.from.Reads as told
 use Rattle.image.proofs.program.Kinds as program_kinds
 use Rattle.image.proofs.program.Reads as program
 use Rattle.image.proofs.program_start.Kinds as program_start_kinds
@@ -73,3 +75,7 @@ program_unique κs a x y s t p q = cc
 
 pub program_start_unique : Unique 1 program_start_kinds.ps program_start_kinds.r (λ κs x s. x) program_start.Post
 program_start_unique κs a x y s t p q = p ∙ sym q
+
+-- and the numbers of a refusal that C gets
+pub told_unique : Unique 0 told_kinds.ps told_kinds.r (λ κs x s. x) told.Post
+told_unique κs a x y s t p q = p ∙ sym q

@@ -24,15 +24,10 @@ const OPERATION: u8 = 240;
 const UNKNOWN: u32 = 255;
 
 // Whether all three hold.
-pub fn all(x: bool, y: bool, z: bool) -> bool
+fn all(x: bool, y: bool, z: bool) -> bool
     ensures { result ≡ x && y && z }
 {
-    if x {
-        if y {
-            return z;
-        }
-    }
-    false
+    x && y && z
 }
 
 // Four bytes as one number.
@@ -43,6 +38,7 @@ fn packed(op: u8, a: u8, b: u8, c: u8) -> u32
 }
 
 // The bits that are 0 in a good instruction, by its operation: the table, row by row. Operations 9 to 255 are bad.
+#[tactic(auto, using(crate::proofs::Bytes::no_bits), unfolding(crate::proofs::Bytes::table))]
 fn bits_of(op: u8) -> u32
     ensures { result ≡ bits_of op }
 {
@@ -69,6 +65,7 @@ struct Row {
 }
 
 // The row of an operation, where there is one.
+#[tactic(auto, using(crate::proofs::Bytes::no_bits_row, crate::proofs::Bytes::bits_row))]
 fn row_of(op: u8) -> Option<Row>
     ensures { result ≡ row_of op }
 {
@@ -84,6 +81,7 @@ fn row_of(op: u8) -> Option<Row>
 }
 
 // Whether a byte, if it names a register, names one that there is.
+#[tactic(auto, using(crate::proofs::Bytes::by_kind), unfolding(crate::specs::Bits::zeros, crate::specs::Instruction::register_good))]
 fn register_good(kind: u8, byte: u8) -> bool
     ensures { ByKind kind (λ k. register_good k byte) result }
 {
@@ -94,6 +92,7 @@ fn register_good(kind: u8, byte: u8) -> bool
 }
 
 // Whether a byte, if it is unused, is 0.
+#[tactic(auto, using(crate::proofs::Bytes::by_kind), unfolding(crate::specs::Bits::zeros, crate::specs::Instruction::unused_good))]
 fn unused_good(kind: u8, byte: u8) -> bool
     ensures { ByKind kind (λ k. unused_good k byte) result }
 {
@@ -104,6 +103,7 @@ fn unused_good(kind: u8, byte: u8) -> bool
 }
 
 // Whether a byte, if it is the length of a skip at place i of m, stays in the program.
+#[tactic(auto, using(crate::proofs::Bytes::by_kind), unfolding(crate::specs::Bits::zeros, crate::specs::Instruction::skip_good))]
 fn skip_good(i: usize, m: usize, kind: u8, byte: u8) -> bool
     requires { i < m }
     ensures { ByKind kind (λ k. skip_good i m k byte) result }
@@ -153,6 +153,7 @@ fn fault(op: u8, a: u8, b: u8, c: u8, i: usize, m: usize) -> Result<(), Fault>
 
 // Whether an instruction is good: first all bits that have to be 0, at once, and of a skip then where it lands. A known operation is below 16, so that its
 // own byte can be one of the four.
+#[tactic(auto, using(crate::proofs::Bytes::by_bits))]
 fn instruction_good(op: u8, a: u8, b: u8, c: u8, i: usize, m: usize) -> bool
     requires { (i < m) × (m ≤ max_instructions) }
     ensures { result ≡ passes (fault_of op a b c i m) }
@@ -168,6 +169,7 @@ fn instruction_good(op: u8, a: u8, b: u8, c: u8, i: usize, m: usize) -> bool
 }
 
 // Whether instruction i of a program is good.
+#[tactic(auto, unfolding(crate::specs::Instruction::fault_at, crate::specs::Instruction::place_good))]
 pub fn place_good(program: &[u8], i: usize) -> bool
     requires { (i < instructions_of program.now) × (length program.now ≤ max_program_bytes) }
     ensures { result ≡ place_good program.now i }
@@ -184,6 +186,7 @@ pub fn place_good(program: &[u8], i: usize) -> bool
 }
 
 // What is wrong with instruction i of a program.
+#[tactic(auto, unfolding(crate::specs::Instruction::fault_at))]
 fn fault_at(program: &[u8], i: usize) -> Result<(), Fault>
     requires { i < instructions_of program.now }
     ensures { result ≡ fault_at program.now i }
@@ -219,6 +222,7 @@ fn first_bad(x: bool, y: bool, a: u8, b: u8, c: u8) -> u8
 }
 
 // The byte that is wrong with an instruction at place i of m, by its fault.
+#[tactic(auto, using(crate::proofs::Bytes::by_row), unfolding(crate::specs::Instruction::wrong_of, crate::specs::Bits::zeros))]
 fn wrong_of(found: Result<(), Fault>, op: u8, a: u8, b: u8, c: u8, i: usize, m: usize) -> u8
     requires { i < m }
     ensures { result ≡ wrong_of found op a b c i m }
@@ -244,6 +248,7 @@ fn wrong_of(found: Result<(), Fault>, op: u8, a: u8, b: u8, c: u8, i: usize, m: 
 }
 
 // The byte that is wrong with instruction i of a program.
+#[tactic(auto, unfolding(crate::specs::Instruction::wrong_byte))]
 pub fn wrong_byte(program: &[u8], i: usize) -> u8
     requires { i < instructions_of program.now }
     ensures { result ≡ wrong_byte program.now i }

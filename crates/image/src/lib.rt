@@ -43,6 +43,7 @@ impl Image {
     pub const BYTES: usize = Image::LEAST_BYTES + Image::PROGRAMS * (2 + Image::PROGRAM_BYTES);
 
     // The header of an image, 0 where bytes are missing.
+    #[tactic(auto, unfolding(crate::specs::Image::number_at))]
     pub fn header(bytes: &[u8]) -> Image
         ensures { result ≡ header_of bytes.now }
     {
@@ -54,14 +55,11 @@ impl Image {
     }
 
     // Check 2.
+    #[tactic(auto, unfolding(crate::specs::Image::header_good))]
     fn valid(self) -> bool
         ensures { result ≡ header_good self }
     {
-        instruction::all(
-            self.count as usize <= Image::PROGRAMS,
-            self.rule <= 2,
-            self.zero == 0,
-        )
+        self.count as usize <= Image::PROGRAMS && self.rule <= 2 && self.zero == 0
     }
 }
 
@@ -69,14 +67,14 @@ impl Image {
 pub fn byte_at(bytes: &[u8], at: usize) -> u8
     ensures { result ≡ byte_at bytes.now at }
 {
-    if at < bytes.len() { bytes[at] } else { 0 }
+    bytes.get(at).copied().unwrap_or(0)
 }
 
 // The number of 16 bits that two bytes are, low byte first.
 fn number(low: u8, high: u8) -> u16
     ensures { result ≡ low + 256 * high }
 {
-    low as u16 + 256 * high as u16
+    u16::from_le_bytes([low, high])
 }
 
 // The program count.
@@ -109,6 +107,7 @@ pub fn head_bytes(n: usize) -> usize
 }
 
 // Offset p of the image, which stands in it.
+#[tactic(auto, unfolding(crate::specs::Image::number_at))]
 fn offset(bytes: &[u8], p: usize) -> usize
     requires { (head_bytes p ≤ length bytes.now) × (p ≤ 65536) }
     ensures { (result ≡ offset_of bytes.now p) × (result < 65536) }
@@ -118,23 +117,20 @@ fn offset(bytes: &[u8], p: usize) -> usize
 }
 
 // Whether program p's offsets do not fall and its length is a multiple of 4 and at most 128.
+#[tactic(auto, unfolding(crate::specs::Image::extent_good))]
 fn extent_good(bytes: &[u8], p: usize) -> bool
     requires { (head_bytes (p + 1) ≤ length bytes.now) × (p < 65536) }
     ensures { result ≡ extent_good bytes.now p }
 {
     let start = offset(bytes, p);
     let end = offset(bytes, p + 1);
-    if end < start {
-        return false;
-    }
-    instruction::all(
-        true,
-        (end - start) % Image::INSTRUCTION_BYTES == 0,
-        end - start <= Image::PROGRAM_BYTES,
-    )
+    start <= end
+        && (end - start) % Image::INSTRUCTION_BYTES == 0
+        && end - start <= Image::PROGRAM_BYTES
 }
 
 // Whether that holds of every program.
+#[tactic(auto, using(base::proofs::Numbers::every_none, base::proofs::Numbers::every_more), unfolding(crate::specs::Image::extents_good))]
 fn extents_good(bytes: &[u8], n: usize) -> bool
     requires { (n ≡ count_of bytes.now) × (head_bytes n ≤ length bytes.now) × (n < 65536) }
     ensures { result ≡ extents_good bytes.now }
@@ -148,6 +144,7 @@ fn extents_good(bytes: &[u8], n: usize) -> bool
 }
 
 // Check 3.
+#[tactic(auto, unfolding(crate::specs::Image::offsets_good))]
 fn offsets_good(bytes: &[u8], n: usize) -> bool
     requires { (n ≡ count_of bytes.now) × (n < 65536) }
     ensures { result ≡ offsets_good bytes.now }
@@ -166,6 +163,7 @@ fn offsets_good(bytes: &[u8], n: usize) -> bool
 }
 
 // The part of the image that program p is.
+#[tactic(auto, unfolding(crate::specs::Image::part_of, base::specs::Words::words))]
 pub fn part_of(bytes: &[u8], p: usize) -> &[u8]
     requires { Lies bytes.now p × (p < 65536) }
     ensures { Part bytes.entry (offset_of bytes.now p) (part_of bytes.now p) result }
@@ -176,6 +174,7 @@ pub fn part_of(bytes: &[u8], p: usize) -> &[u8]
 }
 
 // Check 4: it stops at the first bad instruction of the first bad program, and hands out what is wrong with it.
+#[tactic(auto, using(crate::proofs::Laws::program_by_program))]
 fn code_refusal(bytes: &[u8], n: usize) -> Result<(), BadInstruction>
     requires { (offsets_good bytes.now ≡ true) × (n ≡ count_of bytes.now) × (n < 65536) }
     ensures { result ≡ code_refusal bytes.now }
@@ -195,6 +194,7 @@ fn code_refusal(bytes: &[u8], n: usize) -> Result<(), BadInstruction>
 }
 
 // The first bad instruction of program p, with what is wrong with it.
+#[tactic(auto, using(crate::proofs::Faults::instruction_by_instruction))]
 pub fn program_fault(program: &[u8], p: usize) -> Result<(), BadInstruction>
     requires { (length program.now ≤ max_program_bytes) × (p < 65536) }
     ensures { result ≡ program_fault p program.now }
@@ -209,16 +209,15 @@ pub fn program_fault(program: &[u8], p: usize) -> Result<(), BadInstruction>
 }
 
 // Check 1.
+#[tactic(auto, unfolding(crate::specs::Image::size_good))]
 fn size_good(bytes: &[u8]) -> bool
     ensures { result ≡ size_good bytes.now }
 {
-    if bytes.len() < Image::LEAST_BYTES {
-        return false;
-    }
-    bytes.len() <= Image::BYTES
+    Image::LEAST_BYTES <= bytes.len() && bytes.len() <= Image::BYTES
 }
 
 // The refusal of an image: of the first of the checks 1 to 4 that fails.
+#[tactic(auto, using(crate::proofs::Refusing::checking), unfolding(crate::specs::Image::refusal_of))]
 pub fn image_refusal(bytes: &[u8]) -> Result<(), ImageRefusal>
     ensures { result ≡ refusal_of bytes.now }
 {
@@ -245,6 +244,7 @@ pub fn fresh_refusal(bytes: &[u8]) -> Result<(), Refusal>
 }
 
 // Why no program is handed back: checks 1 to 4 and 8.
+#[tactic(auto, using(crate::proofs::Refusing::checking), unfolding(crate::specs::Image::program_refusal_of))]
 pub fn program_refusal(image: &[u8], number: usize) -> Result<(), Refusal>
     ensures { ProgramRefusalSays image.now number result }
 {
@@ -256,6 +256,7 @@ pub fn program_refusal(image: &[u8], number: usize) -> Result<(), Refusal>
 }
 
 // The program, as that very part of the image; empty on a refusal.
+#[tactic(auto, using(crate::proofs::Laws::handed_when, crate::proofs::Refusing::refused_is, crate::proofs::Laws::handed_nothing))]
 pub fn program(image: &[u8], number: usize) -> &[u8]
     ensures { ProgramSays image.entry number result }
 {
@@ -267,6 +268,7 @@ pub fn program(image: &[u8], number: usize) -> &[u8]
 }
 
 // Where that part begins in the image; 0 on a refusal.
+#[tactic(auto, using(crate::proofs::Laws::handed_when, crate::proofs::Refusing::refused_is, crate::proofs::Laws::handed_nothing))]
 pub fn program_start(image: &[u8], number: usize) -> usize
     ensures { result ≡ start_of image.now number }
 {

@@ -4,8 +4,8 @@ use Prim.Native.Nat.{ℕ}
 use mathlib.Core.Path.{◌≡◌, refl}
 use mathlib.Core.List.{List, [], ◌∷◌, ◌++◌, map}
 use lib.ListN.{set, replicate}
-use Rattle.image.specs.declared.Refusal.{Refusal}
-use Rattle.image.specs.Refusals.{refusing, Counted, no_count, counted}
+use Rattle.image.specs.declared.refusals.RefusalNumbers.{RefusalNumbers}
+use Rattle.image.specs.Refusals.{refusing, none, Counted, numbers_of_count}
 use Rattle.image.specs.Assembler.{joined, image}
 use Rattle.image.specs.Bench.{x, y, z}
 use Rattle.guard.specs.Guards.{full_for}
@@ -13,7 +13,7 @@ use Rattle.slot.specs.declared.Group.TheVariants.{Committed}
 use Rattle.slot.specs.Log.{layout}
 use Rattle.area.specs.Layout.{in_group}
 use Rattle.listing.specs.Order.{rising}
-use Rattle.listing.specs.Listing.{order_answer, order_list, numbers_of_listed}
+use Rattle.listing.specs.Listing.{order_answer, order_list}
 use Rattle.listing.specs.Opened.{opened}
 
 -- ---- how a case is written down
@@ -44,13 +44,13 @@ table = 50 ∷ 51 ∷ 52 ∷ []
 
 -- the numbers that the call returns, refusal and count, and the list that it leaves
 abbrev pub called : (image table area list : List ℕ) → Counted × List ℕ
-called image t a list = (numbers_of_listed (order_answer image t (full_for t) a list), order_list image t (full_for t) a list)
+called image t a list = (numbers_of_count (order_answer image t (full_for t) a list), order_list image t (full_for t) a list)
 
 abbrev pub done : ℕ → List ℕ → Counted × List ℕ
-done count list = (counted count, list)
+done count list = (record { refusal = none; count = count }, list)
 
-abbrev pub refused_with : Refusal → List ℕ → Counted × List ℕ
-refused_with refusal list = (no_count refusal, list)
+abbrev pub refused_with : RefusalNumbers → List ℕ → Counted × List ℕ
+refused_with refusal list = (record { refusal = refusal; count = 0 }, list)
 
 abbrev pub refused : ℕ → List ℕ → Counted × List ℕ
 refused number = refused_with (refusing number)

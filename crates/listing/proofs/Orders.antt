@@ -1,5 +1,5 @@
 -- The call for the listed order: what no refusal shows, and what the call answers and leaves. Assumes nothing.
-use mathlib.Core.Path.{◌≡◌, ◌∙◌}
+use mathlib.Core.Path.{◌≡◌, refl, ◌∙◌}
 use mathlib.Core.Bool.{true, false, cond}
 use mathlib.Core.List.{List}
 use Prim.Native.Nat.{ℕ, ◌≤◌}
@@ -7,17 +7,16 @@ use native.Mathlib.Omega.{arith}
 use lib.Dec.{leb}
 use lib.ListN.{length}
 use borrow.Author.Tests.{leb-true, eqb-true, eqb-false}
-use Rattle.image.specs.declared.Refusal.{Refusal}
-use Rattle.image.specs.Refusals as refusal
-use Rattle.image.specs.Refusals.{check, unless}
+use Rattle.std.specs.Prelude.{Result, Ok, Err}
+use Rattle.image.specs.declared.refusals.Refusal.{Refusal}
+use Rattle.image.specs.declared.refusals.Refusal.TheVariants as refusal
+use Rattle.image.specs.Refusals.{passed, check, unless}
 use Rattle.image.specs.Image.{count_of}
 use Rattle.image.proofs.Refusing.{none_fails, none_after, first_refuses, refused_as_lem, last_decides}
 use Rattle.slot.specs.declared.Group.TheVariants.{Committed}
 use Rattle.area.specs.Layout.{in_group, reads_of, stores_of}
 use Rattle.area.specs.Checks.{call_refusal, ended_refusal, Checked, Measured}
 use Rattle.area.proofs.Checks.{checked, measured, program_slotted}
-use Rattle.listing.specs.declared.Listed.{Listed}
-use Rattle.listing.specs.declared.Listed.TheVariants.{Refused, Count}
 use Rattle.listing.specs.Order.{Order}
 use Rattle.listing.specs.Listing.{committed_count, order_of, order_exists, list_refusal, order_refusal}
 use Rattle.listing.specs.Listing.{order_answer, order_list, OrderSays, overwritten, listed_answer, listed_list, Lists}
@@ -26,14 +25,14 @@ use Rattle.listing.proofs.Knots.{listed_order, listed_stuck}
 
 module _ (image t g a list : List ℕ) where
   -- what no refusal of checks 1 to 10 shows
-  pub list_shows : (list_refusal image t g a list).number ≡ 0 → Checked image t a × (count_of image ≤ length list)
+  pub list_shows : list_refusal image t g a list ≡ passed → Checked image t a × (count_of image ≤ length list)
   unfolding list_refusal ended_refusal
   list_shows e =
       let w = none_after (ended_refusal image t g a) _ e in
-      let r = none_fails (leb (count_of image) (length list)) refusal.too_short _ (λ z. omega arith) w.1 in
+      let r = none_fails (leb (count_of image) (length list)) refusal.TooShort _ w.1 in
       (checked image t g a (none_after (call_refusal image t g a) _ w.0).0, leb-true _ _ r.0)
 
-  pub list_ready : (list_refusal image t g a list).number ≡ 0 → (n : ℕ) → n ≡ count_of image → Measured (length t) n a × Slots a (length t) n × (n ≤ length list)
+  pub list_ready : list_refusal image t g a list ≡ passed → (n : ℕ) → n ≡ count_of image → Measured (length t) n a × Slots a (length t) n × (n ≤ length list)
   list_ready e n q =
       let s = list_shows e in (
         measured image t a s.0 n q,
@@ -43,24 +42,24 @@ module _ (image t g a list : List ℕ) where
 
   -- ---- what the call answers and leaves
 
-  pub order_refused : (r : Refusal) → r ≡ list_refusal image t g a list → (r.number ≡ 0 → ⊥) → OrderSays image t g a list (Refused r) list
+  pub order_refused : {r : Refusal} → list_refusal image t g a list ≡ Err r → OrderSays image t g a list (Err r) list
   unfolding order_answer order_list order_refusal
-  order_refused r e h =
-      let f = first_refuses (check (order_exists (length t) (count_of image) a) refusal.no_order refusal.none) e h in
-      record { answer = refused_as_lem Refused _ f h; entries = refused_as_lem (λ r. list) _ f h }
+  order_refused e =
+      let f = first_refuses (check (order_exists (length t) (count_of image) a) refusal.NoOrder passed) refl e in
+      record { answer = refused_as_lem Err _ f refl; entries = refused_as_lem (λ r. list) _ f refl }
 
   -- where checks 1 to 10 pass, 12 decides
-  twelve : {A : Type 0} (refused : Refusal → A) (done : A) → (list_refusal image t g a list).number ≡ 0
-      → cond (order_exists (length t) (count_of image) a) done (refused refusal.no_order) ≡ unless (order_refusal image t g a list) refused done
+  twelve : {A : Type 0} (refused : Refusal → A) (done : A) → list_refusal image t g a list ≡ passed
+      → cond (order_exists (length t) (count_of image) a) done (refused refusal.NoOrder) ≡ unless (order_refusal image t g a list) refused done
   unfolding order_refusal
-  twelve refused done e = last_decides (list_refusal image t g a list) refusal.no_order (order_exists (length t) (count_of image) a) refused done e (λ z. omega arith)
+  twelve refused done e = last_decides (list_refusal image t g a list) refusal.NoOrder (order_exists (length t) (count_of image) a) refused done e
 
-  pub order_done : (list_refusal image t g a list).number ≡ 0 → (n : ℕ) → n ≡ count_of image → (r : Listed) (list' : List ℕ) → Lists (length t) n a list r list'
+  pub order_done : list_refusal image t g a list ≡ passed → (n : ℕ) → n ≡ count_of image → (r : Result ℕ Refusal) (list' : List ℕ) → Lists (length t) n a list r list'
       → OrderSays image t g a list r list'
   unfolding order_answer order_list listed_answer listed_list
   order_done e n f r list' s =
       record {
-        answer = s.answer ∙ rw f (twelve Refused (Count (length (order_of (length t) (count_of image) a))) e);
+        answer = s.answer ∙ rw f (twelve Err (Ok (length (order_of (length t) (count_of image) a))) e);
         entries = s.entries ∙ rw f (twelve (λ r. list) (overwritten (order_of (length t) (count_of image) a) list) e);
       }
 

@@ -14,12 +14,12 @@ use Rattle.base.proofs.Bools.{known, and_both, and_same}
 use Rattle.base.proofs.Members.{meets_swap}
 use Rattle.base.proofs.Numbers.{first_is, first_some, first_unique, first_ext}
 use Rattle.image.specs.Limits.{max_programs}
-use Rattle.image.specs.Refusals as refusal
+use Rattle.std.specs.Prelude.{Ok, Err}
+use Rattle.image.specs.declared.refusals.Refusal.TheVariants as refusal
 use Rattle.slot.specs.declared.Group.TheVariants.{Committed}
 use Rattle.area.specs.Layout.{in_group, reads_of, stores_of}
-use Rattle.listing.specs.declared.Listed.TheVariants.{Refused, Count}
 use Rattle.listing.specs.Order.{blocks, ready, without, grow, listed}
-use Rattle.listing.specs.Listing.{committed_count, order_of, order_exists, listed_answer, listed_list, Lists}
+use Rattle.listing.specs.Listing.{committed_count, order_of, order_exists, overwritten, listed_answer, listed_list, Lists}
 use Rattle.base.specs.Masks.{word_bits, has_bit, mask_of}
 use Rattle.base.proofs.Counts.{count_ext}
 use Rattle.base.proofs.Masks.{mask_lt, and_masks, mask_zero, mask_has}
@@ -99,17 +99,18 @@ module _ (T n : ℕ) (a : List ℕ) (blockers : List ℕ) (all : ℕ)
   unfolding committed_count
   all_counted = rw whole.all_are (count_ext _ _ n (mask_has (in_group Committed T a) n))
 
-  module _ (r k : ℕ) (list : List ℕ) (many : r ≡ length (picks n blockers all)) (counted : k ≡ count (has_bit all) n) where
-    pub no_order_lem : (r ≡ k → ⊥) → Lists T n a list (Refused refusal.no_order) list
+  -- the programs that are picked are the order, where they are as many as are committed
+  module _ (order list : List ℕ) (k : ℕ) (is : order ≡ picks n blockers all) (counted : k ≡ count (has_bit all) n) where
+    pub no_order_lem : (length order ≡ k → ⊥) → Lists T n a list (Err refusal.NoOrder) list
     unfolding listed_answer listed_list order_exists
     no_order_lem h =
-        let e : eqb (length (order_of T n a)) (committed_count T n a) ≡ false = ne_eqb _ _ (λ z. h (many ∙ ap length picked ∙ z ∙ sym (counted ∙ all_counted))) in
+        let e : eqb (length (order_of T n a)) (committed_count T n a) ≡ false =
+        ne_eqb _ _ (λ z. h (ap length (is ∙ picked) ∙ z ∙ sym (counted ∙ all_counted))) in
         record { answer = rw e; entries = rw e }
 
-    pub whole_order : (order out : List ℕ) → r ≡ k → take r order ≡ picks n blockers all → out ≡ take r order ++ drop r list
-        → Lists T n a list (Count r) out
+    pub whole_order : length order ≡ k → Lists T n a list (Ok (length order)) (overwritten order list)
     unfolding listed_answer listed_list order_exists
-    whole_order order out h t o =
-        let l : r ≡ length (order_of T n a) = many ∙ ap length picked in
-        let e : eqb (length (order_of T n a)) (committed_count T n a) ≡ true = eq-eqb _ _ (sym l ∙ h ∙ (counted ∙ all_counted)) in
-        record { answer = rw (e, ← l); entries = rw (e, ← l) (o ∙ ap (λ (x : List ℕ). x ++ drop r list) (t ∙ picked)) }
+    whole_order h =
+        let l : order ≡ order_of T n a = is ∙ picked in
+        let e : eqb (length (order_of T n a)) (committed_count T n a) ≡ true = eq-eqb _ _ (ap length (sym l) ∙ h ∙ (counted ∙ all_counted)) in
+        record { answer = rw (e, ← l); entries = rw (e, ← l) }

@@ -1,59 +1,51 @@
 -- The readers of each cell among a group of programs: a turn of each loop, and what the bits say in the end. Assumes nothing.
-use mathlib.Core.Path.{◌≡◌, refl, sym, ◌∙◌, ap, subst}
-use mathlib.Core.Logic.{◌⊎◌, inl, inr}
+use mathlib.Core.Path.{◌≡◌, refl, sym, ◌∙◌, ap}
+use mathlib.Core.Logic.{◌⊎◌, inl, inr, ◌≢◌}
 use mathlib.Core.Bool.{Bool, true, false, cond, ◌||◌}
 use mathlib.Core.List.{List, [], ◌∷◌}
-use Prim.Native.Nat.{ℕ, ◌+◌, ◌-◌, ◌*◌, ◌%◌, ◌^◌, ◌<◌, ◌≤◌}
+use Prim.Native.Nat.{ℕ, suc, ◌+◌, ◌-◌, ◌*◌, ◌%◌, ◌^◌, ◌<◌, ◌≤◌}
 use native.Mathlib.Omega.{arith}
 use lib.Dec.{eqb}
 use lib.Bits.{bit_and, bit_or}
-use lib.ListN.{length, get_or, set, replicate, length-set, get_or-replicate}
-use lib.Seq.{get_or-set_same, get_or-set_other}
+use lib.ListN.{length, get_or, set, replicate, length-set, length-take, get_or-replicate}
+use lib.Seq.{get_or-set_same, get_or-set_other, get_or-take, get_or-drop}
 use borrow.Author.Tests.{eqb-true, eqb-false, eq-eqb}
+use Rattle.std.specs.List.{All}
+use Rattle.std.proofs.lemmas.List.Elements.{All-from_get_or}
 use Rattle.base.specs.Words.{has, meets, words}
-use Rattle.base.specs.Masks.{word_bits, has_bit, mask_of, Least}
+use Rattle.base.specs.Masks.{word_bits, has_bit, mask_of}
 use Rattle.base.proofs.Bools.{known, clash}
-use Rattle.base.proofs.Parts.{words_has}
-use Rattle.base.proofs.Walks.{words_next, words_end}
 use Rattle.base.proofs.Masks.{mask_lt, mask_start, mask_next, mask_ext, mask_none, or_masks, bit_set, shifted_byte, bits_in}
 use Rattle.image.specs.Limits.{max_programs, max_cells}
 use Rattle.slot.specs.declared.ListKind.{ListKind}
 use Rattle.slot.specs.declared.ListKind.TheVariants.{Reads, Stores}
 use Rattle.slot.specs.declared.Group.TheVariants.{Committed}
-use Rattle.slot.proofs.ListKinds.{list_lies}
-use Rattle.area.specs.declared.Span.{Span}
-use Rattle.area.specs.Layout.{count_at, list_at, span_of, in_group, list_of, stores_of}
+use Rattle.area.specs.Layout.{count_at, in_group, list_of, stores_of}
 use Rattle.area.specs.Checks.{Slotted}
-use Rattle.listing.specs.Masks.{Slots, CommittedSet}
-use Rattle.listing.specs.Readers.{octet_size, with_bits, bits_for, committed_reads, reads_stored, CellsAt, Octet, ReadersOf, SetIn, Added, Blockers}
-use Rattle.listing.proofs.Masks.{bit_below, all_bounded, Within, within_whole, none_in, member_few, within_in, within_out, within_next}
+use Rattle.listing.specs.Masks.{Out, Slots, CommittedSet}
+use Rattle.listing.specs.Readers.{octet_size, with_bits, bits_for, committed_reads, reads_stored, Octet, ReadersOf, SetIn, Added, Blockers}
+use Rattle.listing.proofs.Taken.{without_is, without_else}
+use Rattle.listing.proofs.Masks.{bit_below, none_in}
 
 -- ---- the cells of a program
 
-module _ (T k : ℕ) (a : List ℕ) (s : Slotted T k a) where
-  -- where the list of a kind lies, as the code looks
-  pub list_at_lem : (l : ListKind) (r : Span) → r ≡ span_of l T k a → CellsAt r.at r.count a
-  list_at_lem l r e =
-      subst (λ (x : Span). CellsAt x.at x.count a) (sym e)
-      (record {
-        lies = omega (arith, s.lies.lies, s.few l, (list_lies l).1);
-        in_table = λ i h. omega (arith, s.inside l i h, s.lies.cells_few);
-      })
-
-  stores_below : (c : ℕ) → has c (stores_of T k a) ≡ true → c < max_cells
-  unfolding list_of
-  stores_below c h =
-      let w = words_has (list_at Stores T k) (get_or a (count_at Stores T k) 0) a c h in omega (arith, s.inside Stores w.0 w.1, s.lies.cells_few, w.2)
+module _ (T k : ℕ) (a : List ℕ) where
+  pub list_cells : Slotted T k a → (l : ListKind) → All (λ c. c < max_cells) (list_of l T k a)
+  unfolding list_of words
+  list_cells s l =
+      All-from_get_or (λ c. c < max_cells) _ 0
+      (λ i h. let inside : i < get_or a (count_at l T k) 0 = omega (arith, simp length-take at h) in
+      rw (get_or-take, get_or-drop) (omega (arith, s.inside l i inside, s.lies.cells_few)))
 
   module _ (readers : List ℕ) where
     pub no_reads : (bits : ℕ) → in_group Committed T a k ≡ false → with_bits bits (committed_reads T a k) readers ≡ readers
-    unfolding committed_reads with_bits
+    unfolding committed_reads
     no_reads bits e = rw e
 
-    pub some_reads : (bit : ℕ) (r : Span) → bit < octet_size → r ≡ span_of Reads T k a → in_group Committed T a k ≡ true
-        → with_bits ((1 * 2 ^ bit) % 2 ^ 8) (words r.at r.count a) readers ≡ with_bits (2 ^ bit) (committed_reads T a k) readers
-    unfolding committed_reads list_of
-    some_reads bit r h e d = rw (shifted_byte bit h, e, d)
+    pub some_reads : (bit : ℕ) → bit < octet_size → in_group Committed T a k ≡ true
+        → with_bits ((1 * 2 ^ bit) % 2 ^ 8) (list_of Reads T k a) readers ≡ with_bits (2 ^ bit) (committed_reads T a k) readers
+    unfolding committed_reads
+    some_reads bit h d = rw (shifted_byte bit h, d)
 
 pub slots_below : (T n : ℕ) (a : List ℕ) (m : ℕ) → Slots a T n → m ≤ n → Slots a T m
 slots_below T n a m s h = record { few = omega (arith, s.few); slotted = λ k l. s.slotted k (omega arith) }
@@ -62,36 +54,12 @@ slots_below T n a m s h = record { few = omega (arith, s.few); slotted = λ k l.
 pub committed_in : (T n all : ℕ) (a : List ℕ) → Slots a T n → CommittedSet T n all a → SetIn T all a
 committed_in T n all a s e =
     record {
-      bounded = all_bounded T n all a s.few e;
       slotted = λ i d. s.slotted i (bit_below n (mask_of (in_group Committed T a) n) i (mask_lt (in_group Committed T a) n) (rw e.all_are at d));
     }
-
--- ---- the loops over a list: k of its cells are passed
-
-module _ (a : List ℕ) (at n : ℕ) (p : CellsAt at n a) (k : ℕ) where
-  module _ (bits : ℕ) (readers whole : List ℕ) (left : with_bits bits (words (at + k) (n - k) a) readers ≡ whole) where
-    pub set_turn : k < n → let c = get_or a (at + k) 0 in
-        with_bits bits (words (at + (k + 1)) (n - (k + 1)) a) (set readers c (bit_or (get_or readers c 0) bits)) ≡ whole
-    unfolding with_bits
-    set_turn h = rw (words_next a at n p.lies k h) at left
-
-    pub set_end : n ≤ k → readers ≡ whole
-    unfolding with_bits
-    set_end h = rw (words_end a at n p.lies k h) at left
-
-  module _ (readers : List ℕ) (found whole : ℕ) (left : bits_for readers found (words (at + k) (n - k) a) ≡ whole) where
-    pub find_turn : k < n → bits_for readers (bit_or found (get_or readers (get_or a (at + k) 0) 0)) (words (at + (k + 1)) (n - (k + 1)) a) ≡ whole
-    unfolding bits_for
-    find_turn h = rw (words_next a at n p.lies k h) at left
-
-    pub find_end : n ≤ k → found ≡ whole
-    unfolding bits_for
-    find_end h = rw (words_end a at n p.lies k h) at left
 
 -- ---- one reader more
 
 pub bits_length : (bits : ℕ) (cells readers : List ℕ) → length (with_bits bits cells readers) ≡ length readers
-unfolding with_bits
 bits_length bits [] readers = refl
 bits_length bits (x ∷ xs) readers =
     bits_length bits xs (set readers x (bit_or (get_or readers x 0) bits)) ∙ length-set readers x (bit_or (get_or readers x 0) bits)
@@ -99,7 +67,7 @@ bits_length bits (x ∷ xs) readers =
 -- a cell's bit is set where it was, and where the cell is in the list
 bit_of_cell : (m j c : ℕ) → m < 2 ^ j → (cells readers : List ℕ) → c < length readers → (b : Bool) → get_or readers c 0 ≡ m + cond b (2 ^ j) 0
     → get_or (with_bits (2 ^ j) cells readers) c 0 ≡ m + cond (b || has c cells) (2 ^ j) 0
-unfolding with_bits has
+unfolding has
 bit_of_cell m j c l [] readers h b e = e ∙ go b
   where
     go : (b : Bool) → m + cond b (2 ^ j) 0 ≡ m + cond (b || false) (2 ^ j) 0
@@ -148,31 +116,24 @@ module _ (reads : ℕ → List ℕ) (start : ℕ) where
 -- ---- the bits of a list's cells are the programs whose reads it meets
 
 module _ (reads : ℕ → List ℕ) (start end : ℕ) (readers : List ℕ) (r : ReadersOf reads start end readers) where
-  found_more : (p : ℕ → Bool) (found : ℕ) (cells : List ℕ) → ((c : ℕ) → has c cells ≡ true → c < max_cells) → found ≡ mask_of p (end - start)
+  found_more : (p : ℕ → Bool) (found : ℕ) (cells : List ℕ) → All (λ c. c < max_cells) cells → found ≡ mask_of p (end - start)
       → bits_for readers found cells ≡ mask_of (λ k. p k || meets cells (reads (start + k))) (end - start)
-  unfolding bits_for meets has
+  unfolding meets has
   found_more p found [] small e = e ∙ mask_ext p (λ k. p k || false) (end - start) (λ k h. go (p k))
     where
       go : (b : Bool) → b ≡ b || false
       go true = refl
       go false = refl
   found_more p found (x ∷ xs) small e =
-      found_more (λ k. p k || has x (reads (start + k))) (bit_or found (get_or readers x 0)) xs (λ c h. small c (rest (eqb c x) (has c xs) h))
-      (rw (e, r.bits x (small x (here (has x xs)))) (or_masks p (λ k. has x (reads (start + k))) (end - start)))
+      found_more (λ k. p k || has x (reads (start + k))) (bit_or found (get_or readers x 0)) xs (λ k d h. small (suc k) d (omega arith))
+      (rw (e, r.bits x (small 0 x (omega arith))) (or_masks p (λ k. has x (reads (start + k))) (end - start)))
       ∙ mask_ext _ _ (end - start) (λ k h. regroup (p k) (has x (reads (start + k))) (meets xs (reads (start + k))))
     where
-      rest : (a b : Bool) → b ≡ true → a || b ≡ true
-      rest true b h = refl
-      rest false b h = h
-
-      here : (b : Bool) → eqb x x || b ≡ true
-      here b = rw (eq-eqb x x refl)
-
       regroup : (a b d : Bool) → (a || b) || d ≡ a || (b || d)
       regroup true b d = refl
       regroup false b d = refl
 
-  pub found_is : (cells : List ℕ) → ((c : ℕ) → has c cells ≡ true → c < max_cells)
+  pub found_is : (cells : List ℕ) → All (λ c. c < max_cells) cells
       → bits_for readers 0 cells ≡ mask_of (λ k. meets cells (reads (start + k))) (end - start)
   found_is cells small = found_more (λ k. false) 0 cells small (sym (mask_none (λ k. false) (end - start) (λ k h. refl)))
 
@@ -196,45 +157,44 @@ blockers_next T programs start end a readers before after s g few r b d =
       entry = λ i e.
           let f : start + (end - start) ≡ end = omega (arith, g.not_empty) in
           d.more i e
-          ∙ rw (b.entry i e, found_is (committed_reads T a) start end readers r (stores_of T i a) (stores_below T i a (s.slotted i e)))
+          ∙ rw (b.entry i e, found_is (committed_reads T a) start end readers r (stores_of T i a) (list_cells T i a (s.slotted i e) Stores))
           (bits_in (reads_stored T a i) start (end - start) (omega (arith, g.not_empty))
           ∙ ap (mask_of (reads_stored T a i)) f);
     }
 
 -- those that are not in the rest have the group's bits, the others are as they were
 pub record Adding (T programs start : ℕ) (a readers before : List ℕ) (rest : ℕ) (l : List ℕ) : Type 0 where
-  pub part : Within rest programs
+  pub part : (k : ℕ) → has_bit rest k ≡ true → has_bit programs k ≡ true
   pub long : length l ≡ max_programs
   pub done : (k : ℕ) → has_bit programs k ≡ true → has_bit rest k ≡ false
       → get_or l k 0 ≡ bit_or (get_or before k 0) ((bits_for readers 0 (stores_of T k a) * 2 ^ start) % 2 ^ word_bits)
   pub still : (k : ℕ) → has_bit rest k ≡ true → get_or l k 0 ≡ get_or before k 0
 
 module _ (T programs start : ℕ) (a readers before : List ℕ) where
-  pub adding_start : programs < 2 ^ word_bits → length before ≡ max_programs → Adding T programs start a readers before programs before
-  adding_start b h = record { part = within_whole programs b; long = h; done = λ k e f. clash e f; still = λ k e. refl }
+  pub adding_start : length before ≡ max_programs → Adding T programs start a readers before programs before
+  adding_start h = record { part = λ k e. e; long = h; done = λ k e f. clash e f; still = λ k e. refl }
 
-  pub adding_end : (rest : ℕ) (l : List ℕ) → Adding T programs start a readers before rest l → rest ≡ 0
-      → Added T programs start a readers before l
-  adding_end rest l t e = record { long = t.long; more = λ i d. t.done i d (none_in rest i e) }
+  module _ (rest : ℕ) (l : List ℕ) (t : Adding T programs start a readers before rest l) where
+    pub adding_end : rest ≡ 0 → Added T programs start a readers before l
+    adding_end e = record { long = t.long; more = λ i d. t.done i d (none_in rest i e) }
 
-  pub adding_next : programs < 2 ^ word_bits → (rest i found v : ℕ) (l : List ℕ) → Adding T programs start a readers before rest l → Least rest i
-      → found ≡ bits_for readers 0 (stores_of T i a) → v ≡ (found * 2 ^ start) % 2 ^ word_bits
-      → Adding T programs start a readers before (bit_and rest (rest - 1)) (set l i (bit_or (get_or l i 0) v))
-  adding_next bounded rest i found v l t m f e =
-      record {
-        part = within_next programs rest i t.part m;
-        long = length-set l i new ∙ t.long;
-        done = λ k d h. go k d (within_out programs rest i t.part m k (bit_below word_bits programs k bounded d) h);
-        still = λ k h.
-            let w = within_in programs rest i t.part m k h in
-            get_or-set_other l i k new 0 w.1 ∙ t.still k w.0;
-      }
-    where
-      new : ℕ
-      new = bit_or (get_or l i 0) v
+    pub adding_next : (i rest' found v : ℕ) → Out rest i rest' → found ≡ bits_for readers 0 (stores_of T i a)
+        → v ≡ (found * 2 ^ start) % 2 ^ word_bits → Adding T programs start a readers before rest' (set l i (bit_or (get_or l i 0) v))
+    adding_next i rest' found v o f e =
+        record {
+          part = λ k b. t.part k (inside k b).0;
+          long = length-set l i new ∙ t.long;
+          done = λ k d b. go k d (without_else i (has_bit rest) k (sym (o.others k) ∙ b));
+          still = λ k b. let w = inside k b in get_or-set_other l i k new 0 w.1 ∙ t.still k w.0;
+        }
+      where
+        new : ℕ
+        new = bit_or (get_or l i 0) v
 
-      go : (k : ℕ) → has_bit programs k ≡ true → (k ≡ i) ⊎ (has_bit rest k ≡ false)
-          → get_or (set l i new) k 0 ≡ bit_or (get_or before k 0) ((bits_for readers 0 (stores_of T k a) * 2 ^ start) % 2 ^ word_bits)
-      go k d (inl q) =
-          rw (q, get_or-set_same l i new 0 (omega (arith, t.long, member_few programs rest i t.part m)), t.still i m.member, e, f)
-      go k d (inr q) = get_or-set_other l i k new 0 (λ z. clash m.member (rw z at q)) ∙ t.done k d q
+        inside : (k : ℕ) → has_bit rest' k ≡ true → (has_bit rest k ≡ true) × (k ≢ i)
+        inside k b = without_is i (has_bit rest) k (sym (o.others k) ∙ b)
+
+        go : (k : ℕ) → has_bit programs k ≡ true → (k ≡ i) ⊎ (has_bit rest k ≡ false)
+            → get_or (set l i new) k 0 ≡ bit_or (get_or before k 0) ((bits_for readers 0 (stores_of T k a) * 2 ^ start) % 2 ^ word_bits)
+        go k d (inl q) = rw (q, get_or-set_same l i new 0 (omega (arith, t.long, o.few)), t.still i o.smallest.member, e, f)
+        go k d (inr q) = get_or-set_other l i k new 0 (λ z. clash o.smallest.member (rw z at q)) ∙ t.done k d q

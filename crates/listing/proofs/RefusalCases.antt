@@ -4,11 +4,12 @@ use Prim.Native.Nat.{ℕ}
 use mathlib.Core.Path.{◌≡◌, refl}
 use mathlib.Core.List.{List, [], ◌∷◌, ◌++◌, map}
 use lib.ListN.{take, drop, set, replicate}
+use Rattle.std.specs.Prelude.{Ok, Err}
+use Rattle.image.specs.declared.refusals.Refusal.TheVariants as refusal
 use Rattle.image.specs.Refusals.{refusing_at, refusing, Counted}
 use Rattle.image.specs.Assembler.{instruction, end, program, image}
 use Rattle.image.specs.Bench.{x, y, z}
 use Rattle.guard.specs.Guards.{full_for}
-use Rattle.listing.specs.declared.Listed.TheVariants.{Refused, Count}
 use Rattle.listing.specs.Listing.{OrderSays}
 use Rattle.listing.specs.Opened.{opened}
 use Rattle.listing.proofs.Cases.{slot, committed, idle, area, batch, table, called, done, refused_with, refused, nines, lists}
@@ -97,14 +98,14 @@ unfolding opened
 row_order = refl
 
 -- 14 after 5, before 6: guards of a word too few, where the area has a word too many and all the rest is broken too
-guards_too_short : OrderSays (batch circle_of_two) table (drop 1 (full_for table)) (overmarked ++ (0 ∷ [])) (9 ∷ []) (Refused (refusing 14)) (9 ∷ [])
-    × OrderSays (batch circle_of_two) [] (full_for table) (overmarked ++ (0 ∷ [])) (9 ∷ []) (Refused (refusing 5)) (9 ∷ [])
+guards_too_short : OrderSays (batch circle_of_two) table (drop 1 (full_for table)) (overmarked ++ (0 ∷ [])) (9 ∷ []) (Err refusal.Guards) (9 ∷ [])
+    × OrderSays (batch circle_of_two) [] (full_for table) (overmarked ++ (0 ∷ [])) (9 ∷ []) (Err refusal.TableSize) (9 ∷ [])
 unfolding opened
 guards_too_short = (record { answer = refl; entries = refl }, record { answer = refl; entries = refl })
 
 -- what the call's contract says of all this
-order_says : OrderSays (batch (idle ∷ idle ∷ [])) table (full_for table) (area (idle ∷ idle ∷ [])) (6 ∷ 7 ∷ 8 ∷ []) (Count 2) (0 ∷ 1 ∷ 8 ∷ [])
-    × OrderSays (batch circle_of_two) table (full_for table) stuck (9 ∷ []) (Refused (refusing 10)) (9 ∷ [])
-    × OrderSays (batch circle_of_two) table (full_for table) stuck (9 ∷ 9 ∷ []) (Refused (refusing 12)) (9 ∷ 9 ∷ [])
+order_says : OrderSays (batch (idle ∷ idle ∷ [])) table (full_for table) (area (idle ∷ idle ∷ [])) (6 ∷ 7 ∷ 8 ∷ []) (Ok 2) (0 ∷ 1 ∷ 8 ∷ [])
+    × OrderSays (batch circle_of_two) table (full_for table) stuck (9 ∷ []) (Err refusal.TooShort) (9 ∷ [])
+    × OrderSays (batch circle_of_two) table (full_for table) stuck (9 ∷ 9 ∷ []) (Err refusal.NoOrder) (9 ∷ 9 ∷ [])
 unfolding opened
 order_says = (record { answer = refl; entries = refl }, record { answer = refl; entries = refl }, record { answer = refl; entries = refl })

@@ -8,7 +8,7 @@ use native.Mathlib.Omega.{arith}
 use lib.Dec.{eqb}
 use borrow.Author.Tests.{eqb-true, eqb-false, eq-eqb, ne_eqb}
 use Rattle.base.specs.Words.{first, count, meets}
-use Rattle.base.proofs.Bools.{known, and_both, both_and, nots, no_not}
+use Rattle.base.proofs.Bools.{known, clash, and_both, both_and, nots, no_not}
 use Rattle.base.proofs.Numbers.{below, first_ext}
 use Rattle.listing.specs.Order.{blocks, ready, without, grow, listed}
 
@@ -21,6 +21,15 @@ without_is i left j e = let t = and_both (left j) (not (eqb j i)) e in (t.0, eqb
 pub is_without : (i : ℕ) (left : ℕ → Bool) (j : ℕ) → left j ≡ true → j ≢ i → without i left j ≡ true
 unfolding without
 is_without i left j e h = both_and e (no_not (ne_eqb j i h))
+
+pub without_else : (i : ℕ) (left : ℕ → Bool) (j : ℕ) → without i left j ≡ false → (j ≡ i) ⊎ (left j ≡ false)
+unfolding without
+without_else i left j e = go (known (eqb j i)) (known (left j))
+  where
+    go : (eqb j i ≡ true) ⊎ (eqb j i ≡ false) → (left j ≡ true) ⊎ (left j ≡ false) → (j ≡ i) ⊎ (left j ≡ false)
+    go (inl q) r = inl (eqb-true j i q)
+    go (inr q) (inl r) = clash {b = left j && not (eqb j i)} (rw (q, r)) e
+    go (inr q) (inr r) = inr r
 
 -- the count looks at the numbers below n alone
 count_past : (left : ℕ → Bool) (n i : ℕ) → n ≤ i → count (without i left) n ≡ count left n

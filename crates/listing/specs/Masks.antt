@@ -2,10 +2,10 @@
 use Rattle.std.specs.Prelude.{◌≡◌, Bool, ◌&&◌, List, [], ℕ, zero, suc, ◌^◌, ◌<◌, ◌≤◌, eqb, length, get_or, take}
 use Rattle.std.specs.Int.Bits.{bit_and, bit_xor}
 use Rattle.base.specs.Words.{first}
-use Rattle.base.specs.Masks.{word_bits, has_bit, mask_of}
+use Rattle.base.specs.Masks.{word_bits, has_bit, mask_of, Least}
 use Rattle.image.specs.Limits.{max_programs}
 use Rattle.area.specs.Checks.{Slotted}
-use Rattle.listing.specs.Order.{grow}
+use Rattle.listing.specs.Order.{without, grow}
 use Rattle.slot.specs.declared.Group.TheVariants.{Committed}
 use Rattle.area.specs.Layout.{in_group}
 
@@ -18,12 +18,11 @@ unfoldable pub picks : ℕ → List ℕ → ℕ → List ℕ
 picks zero blockers left = []
 picks (suc k) blockers left = grow (first (free blockers left) word_bits) (λ i. picks k blockers (bit_xor left (2 ^ i)))
 
--- The first r entries of the order are those that are picked.
-pub record Picked (n : ℕ) (blockers : List ℕ) (all : ℕ) (order : List ℕ) (r : ℕ) : Type 0 where
-  pub front : take r order ≡ picks n blockers all
-  pub as_many : r ≡ length (picks n blockers all)
-  pub at_most : r ≤ n
-  pub room : length order ≡ max_programs
+-- The smallest program of a set is taken out of it.
+pub record Out (members i rest : ℕ) : Type 0 where
+  pub few : i < word_bits
+  pub smallest : Least members i
+  pub others : (j : ℕ) → has_bit rest j ≡ without i (has_bit members) j
 
 -- What the checks have shown of every slot.
 pub record Slots (a : List ℕ) (T n : ℕ) : Type 0 where

@@ -1,6 +1,7 @@
 -- Who reads what a program stores, as the code finds it out: for a group of programs at a time, a byte for each cell, a bit of it for each program.
 -- Assumes nothing.
 use Rattle.std.specs.Prelude.{◌≡◌, Bool, true, cond, List, [], ◌∷◌, ℕ, ◌+◌, ◌-◌, ◌*◌, ◌%◌, ◌^◌, ◌<◌, ◌≤◌, length, get_or, set}
+use Rattle.std.specs.List.{fold}
 use Rattle.std.specs.Int.Bits.{bit_or}
 use Rattle.base.specs.Words.{has, meets}
 use Rattle.base.specs.Masks.{word_bits, has_bit, mask_of}
@@ -15,14 +16,12 @@ abbrev pub octet_size : ℕ
 octet_size = 8
 
 -- bits are set for the cells of a list
-unfoldable pub with_bits : ℕ → List ℕ → List ℕ → List ℕ
-with_bits bits [] readers = readers
-with_bits bits (c ∷ cs) readers = with_bits bits cs (set readers c (bit_or (get_or readers c 0) bits))
+abbrev pub with_bits : ℕ → List ℕ → List ℕ → List ℕ
+with_bits bits cells readers = fold (λ found c. set found c (bit_or (get_or found c 0) bits)) readers cells
 
 -- the bits that are found already, and those that are set for one of the cells of a list
-unfoldable pub bits_for : List ℕ → ℕ → List ℕ → ℕ
-bits_for readers found [] = found
-bits_for readers found (c ∷ cs) = bits_for readers (bit_or found (get_or readers c 0)) cs
+abbrev pub bits_for : List ℕ → ℕ → List ℕ → ℕ
+bits_for readers found cells = fold (λ found c. bit_or found (get_or readers c 0)) found cells
 
 -- what program j reads, where it is committed
 unfoldable pub committed_reads : ℕ → List ℕ → ℕ → List ℕ
@@ -31,11 +30,6 @@ committed_reads T a j = cond (in_group Committed T a j) (reads_of T j a) []
 -- program j, a committed one, reads a cell that i stores: the two may be the same
 unfoldable pub reads_stored : ℕ → List ℕ → ℕ → ℕ → Bool
 reads_stored T a i j = meets (stores_of T i a) (committed_reads T a j)
-
--- The n words from a place on lie in the area, and each is a cell.
-pub record CellsAt (at n : ℕ) (a : List ℕ) : Type 0 where
-  pub lies : at + n ≤ length a
-  pub in_table : (k : ℕ) → k < n → get_or a (at + k) 0 < max_cells
 
 -- The programs from start up to end are a group.
 pub record Octet (start end : ℕ) : Type 0 where
@@ -49,7 +43,6 @@ pub record ReadersOf (reads : ℕ → List ℕ) (start end : ℕ) (readers : Lis
 
 -- The programs of a set have slots.
 pub record SetIn (T programs : ℕ) (a : List ℕ) : Type 0 where
-  pub bounded : programs < 2 ^ word_bits
   pub slotted : (i : ℕ) → has_bit programs i ≡ true → Slotted T i a
 
 -- Each entry of a set's programs has these bits, from bit start on, besides those that it had.

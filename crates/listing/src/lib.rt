@@ -1,16 +1,17 @@
 // The listed order: document 01, "Listed order".
 #![tactic(auto)]
 
-ghost use Rattle.std.specs.Prelude.{◌≡◌, ◌++◌, ◌+◌, ◌*◌, ◌%◌, ◌^◌, ◌<◌, ◌≤◌, length, take, drop, replicate};
-ghost use Rattle.base.specs.Words.{first, words};
+ghost use Rattle.std.specs.Prelude.{◌≡◌, ◌++◌, ◌+◌, ◌*◌, ◌%◌, ◌^◌, ◌<◌, ◌≤◌, length, take, drop, replicate, All, MatchOption};
+ghost use Rattle.base.specs.Words.{first};
 ghost use Rattle.image.specs.Limits.{max_programs, max_cells};
-ghost use Rattle.area.specs.Layout.{in_group, stores_of};
+ghost use Rattle.area.specs.Layout.{in_group, list_of, stores_of};
 ghost use Rattle.area.specs.Checks.{Measured, Slotted};
 ghost use Rattle.slot.specs.declared.Group.TheVariants.{Committed};
-ghost use Rattle.listing.specs.Listing.{list_refusal, OrderSays, Lists};
+ghost use Rattle.listing.specs.Listing.{list_refusal, overwritten, OrderSays, Lists};
 ghost use Rattle.base.specs.Masks.{word_bits};
-ghost use Rattle.listing.specs.Readers.{octet_size, with_bits, bits_for, committed_reads, CellsAt, Octet, ReadersOf, SetIn, Added, Blockers, ToList};
-ghost use Rattle.listing.specs.Masks.{free, Picked, Slots};
+ghost use Rattle.listing.specs.Readers.{octet_size, with_bits, bits_for, committed_reads, Octet, ReadersOf, SetIn, Added, Blockers, ToList};
+ghost use Rattle.listing.specs.Masks.{free, picks, Out, Slots};
+ghost use Rattle.std.specs.Iterator.{at_most};
 
 use image::Refusal;
 
@@ -20,31 +21,61 @@ const OCTET: usize = 8;
 // For each cell, the programs of a group that read it, a bit each.
 type Readers = [u8; image::Image::CELLS];
 
-// Sets a bit for each of the count cells from the word `at` on.
-fn set_bits(area: &[u32], at: usize, count: usize, bit: u8, readers: &mut Readers)
-    requires { CellsAt at count area.now × (length readers.old ≡ max_cells) }
-    ensures { readers.new ≡ with_bits bit (words at count area.now) readers.old }
-{
-    for k in 0..count {
-        let cell = area[at + k] as usize;
-        readers[cell] = readers[cell] | bit;
+// The programs of a set, one after another, the smallest first.
+#[derive(Drop)]
+struct Members(u64);
+
+impl Iterator for Members {
+    type Item = usize;
+
+    ghost next_gives = { λ s r t. MatchOption r (s.0 ≡ 0) (λ i. Out s.0 i t.0) };
+
+    ghost remaining = { λ s. at_most s.0 };
+
+    #[tactic(auto, using(crate::proofs::Masks::least_out))]
+    fn next(&mut self) -> Option<usize> {
+        if self.0 == 0 {
+            return None;
+        }
+        let i = masks::least(self.0);
+        self.0 &= self.0 - 1;
+        Some(i)
     }
 }
 
-// The bits that are set for one of the count cells from the word `at` on.
-fn bits_for(area: &[u32], at: usize, count: usize, readers: &Readers) -> u8
-    requires { CellsAt at count area.now }
-    ensures { result ≡ bits_for readers.now 0 (words at count area.now) }
+// The cells that program i's list of a kind counts.
+#[tactic(auto, using(crate::proofs::Readers::list_cells), unfolding(area::specs::Layout::list_of, base::specs::Words::words))]
+fn cells_of(area: &[u32], cells: usize, i: usize, list: slot::ListKind) -> &[u32]
+    requires { Slotted cells i area.now }
+    ensures counted { result.now ≡ list_of list cells i area.now }
+    ensures in_table { All (λ c. c < max_cells) result.now }
 {
-    let mut found: u8 = 0;
-    for k in 0..count {
-        let cell = area[at + k] as usize;
-        found = found | readers[cell];
+    let s = area::span_of(area, cells, i, list);
+    &area[s.at..s.at + s.count]
+}
+
+// Sets a bit for each of the cells.
+fn set_bits(cells: &[u32], bit: u8, readers: &mut Readers)
+    requires { All (λ c. c < max_cells) cells.now }
+    ensures { readers.new ≡ with_bits bit cells.now readers.old }
+{
+    for cell in cells {
+        readers[*cell as usize] |= bit;
     }
-    found
+}
+
+// The bits that are set for one of the cells.
+fn bits_for(cells: &[u32], readers: &Readers) -> u8
+    requires { All (λ c. c < max_cells) cells.now }
+    ensures { result ≡ bits_for readers.now 0 cells.now }
+{
+    cells
+        .iter()
+        .fold(0, |found, cell| found | readers[*cell as usize])
 }
 
 // Whether program i is committed.
+#[tactic(auto, unfolding(area::specs::Layout::in_group))]
 fn is_committed(area: &[u32], cells: usize, i: usize) -> bool
     requires { Slotted cells i area.now }
     ensures { result ≡ in_group Committed cells area.now i }
@@ -54,15 +85,15 @@ fn is_committed(area: &[u32], cells: usize, i: usize) -> bool
 }
 
 // Program `number`, where it is committed, is marked as a reader of the cells that it reads; its bit says its place in the group.
+#[tactic(auto, using(base::proofs::Masks::shifted_byte), unfolding(crate::specs::Readers::committed_reads))]
 fn add_reader(area: &[u32], cells: usize, number: usize, bit: usize, readers: &mut Readers)
-    requires { Slotted cells number area.now × (bit < octet_size) × (length readers.old ≡ max_cells) }
+    requires { Slotted cells number area.now × (bit < octet_size) }
     ensures { readers.new ≡ with_bits (2 ^ bit) (committed_reads cells area.now number) readers.old }
 {
-    if !is_committed(area, cells, number) {
-        return;
+    if is_committed(area, cells, number) {
+        let reads = cells_of(area, cells, number, slot::ListKind::Reads);
+        set_bits(reads, 1 << bit, readers);
     }
-    let s = area::span_of(area, cells, number, slot::ListKind::Reads);
-    set_bits(area, s.at, s.count, 1 << bit, readers);
 }
 
 // The programs of the group that read a cell which program i stores.
@@ -70,11 +101,11 @@ fn readers_of(area: &[u32], cells: usize, i: usize, readers: &Readers) -> u8
     requires { Slotted cells i area.now }
     ensures { result ≡ bits_for readers.now 0 (stores_of cells i area.now) }
 {
-    let s = area::span_of(area, cells, i, slot::ListKind::Stores);
-    bits_for(area, s.at, s.count, readers)
+    bits_for(cells_of(area, cells, i, slot::ListKind::Stores), readers)
 }
 
 // Marks, for each cell, its readers among the programs from start up to end.
+#[tactic(auto, using(crate::proofs::Readers::readers_next))]
 fn find_readers(area: &[u32], cells: usize, start: usize, end: usize, readers: &mut Readers)
     requires { Slots area.now cells end × Octet start end × (readers.old ≡ replicate max_cells 0) }
     ensures { ReadersOf (committed_reads cells area.now) start end readers.new }
@@ -89,7 +120,7 @@ fn raised(bits: u8, start: usize) -> u64
     requires { start < word_bits }
     ensures { result ≡ (bits * 2 ^ start) % 2 ^ word_bits }
 {
-    (bits as u64) << start
+    u64::from(bits) << start
 }
 
 // Adds, to the readers of what each program of a set stores, those of the group that begins at start.
@@ -101,14 +132,11 @@ fn add_blockers(
     readers: &Readers,
     blockers: &mut [u64; image::Image::PROGRAMS],
 )
-    requires { SetIn cells set area.now × (start < word_bits) × (length blockers.old ≡ max_programs) }
+    requires { SetIn cells set area.now × (start < word_bits) }
     ensures { Added cells set start area.now readers.now blockers.old blockers.new }
 {
-    let mut rest = set;
-    while rest != 0 {
-        let i = masks::least(rest);
-        blockers[i] = blockers[i] | raised(readers_of(area, cells, i, readers), start);
-        rest = rest & rest - 1;
+    for i in Members(set) {
+        blockers[i] |= raised(readers_of(area, cells, i, readers), start);
     }
 }
 
@@ -129,17 +157,6 @@ fn add_octet(
     add_blockers(area, cells, start, set, &readers, blockers);
 }
 
-// Where the group that begins with program start ends.
-fn octet_end(start: usize, n: usize) -> usize
-    requires { start < n }
-    ensures { Octet start result × (result ≤ n) }
-{
-    if n - start < OCTET {
-        return n;
-    }
-    start + OCTET
-}
-
 // Fills in, for each program of a set, the committed programs that read what it stores.
 fn fill_blockers(
     area: &[u32],
@@ -151,69 +168,53 @@ fn fill_blockers(
     requires { Slots area.now cells n × SetIn cells set area.now × (blockers.old ≡ replicate max_programs 0) }
     ensures { Blockers cells set n area.now blockers.new }
 {
-    let mut start = 0;
-    while start < n {
-        let end = octet_end(start, n);
-        add_octet(area, cells, start, end, set, blockers);
-        start = end;
+    for start in (0..n).step_by(OCTET) {
+        add_octet(area, cells, start, (start + OCTET).min(n), set, blockers);
     }
 }
 
-// 1 + the first program that is left and that no other that is left keeps back; 0 where there is none.
-fn next_free(blockers: &[u64; image::Image::PROGRAMS], left: u64) -> usize
-    requires { left < 2 ^ word_bits }
-    ensures { result ≡ first (free blockers.now left) word_bits }
+// The first program that is left and that no other that is left keeps back.
+#[tactic(auto, using(crate::proofs::Masks::program_by_program))]
+fn next_free(blockers: &[u64; image::Image::PROGRAMS], left: u64) -> Option<usize>
+    ensures { MatchOption result (first (free blockers.now left) word_bits ≡ 0) (λ i. first (free blockers.now left) word_bits ≡ i + 1) }
 {
-    let mut rest = left;
-    while rest != 0 {
-        let i = masks::least(rest);
+    for i in Members(left) {
         if blockers[i] & (left ^ 1 << i) == 0 {
-            return i + 1;
+            return Some(i);
         }
-        rest = rest & rest - 1;
     }
-    0
+    None
 }
 
-// Takes programs until none is free; returns how many.
-fn pick_all(
+// Takes programs until none is free; returns those that are taken, in their order.
+#[tactic(auto, using(crate::proofs::Turns::taking, std::proofs::lemmas::Grind::common_steps))]
+fn pick_all<'a>(
     blockers: &[u64; image::Image::PROGRAMS],
     all: u64,
     n: usize,
-    order: &mut [u8; image::Image::PROGRAMS],
-) -> usize
-    requires { (n ≤ max_programs) × (all < 2 ^ word_bits) × (length order.old ≡ max_programs) }
-    ensures { Picked n blockers.now all order.new result }
+    order: &'a mut [u8; image::Image::PROGRAMS],
+) -> &'a [u8]
+    requires { n ≤ max_programs }
+    ensures { result.now ≡ picks n blockers.now all }
 {
     let mut left = all;
-    let mut taken: usize = 0;
-    while taken < n {
-        let next = next_free(blockers, left);
-        if next == 0 {
-            return taken;
-        }
-        let i = next - 1;
+    for taken in 0..n {
+        let Some(i) = next_free(blockers, left) else {
+            return &order[..taken];
+        };
         order[taken] = i as u8;
-        left = left ^ 1 << i;
-        taken += 1;
+        left ^= 1 << i;
     }
-    taken
+    &order[..n]
 }
 
-// A byte as a word.
-fn wide(x: u8) -> u32
-    ensures { result ≡ x }
+// Copies the order to the front of the list.
+fn copy_order(order: &[u8], list: &mut [u32])
+    requires { length order.now ≤ length list.old }
+    ensures { list.new ≡ overwritten order.now list.old }
 {
-    x as u32
-}
-
-// Copies the first n entries of the order to the front of the list.
-fn copy_order(order: &[u8; image::Image::PROGRAMS], n: usize, list: &mut [u32])
-    requires { (n ≤ max_programs) × (n ≤ length list.old) × (length order.now ≡ max_programs) }
-    ensures { list.new ≡ take n order.now ++ drop n list.old }
-{
-    for k in 0..n {
-        list[k] = wide(order[k]);
+    for (k, program) in order.iter().enumerate() {
+        list[k] = u32::from(*program);
     }
 }
 
@@ -230,12 +231,12 @@ fn list_all(
     ensures { Lists cells n area.now list.old result list.new }
 {
     let mut taken: [u8; image::Image::PROGRAMS] = [0; image::Image::PROGRAMS];
-    let found = pick_all(blockers, all, n, &mut taken);
-    if found != masks::count(all, n) {
+    let order = pick_all(blockers, all, n, &mut taken);
+    if order.len() != masks::count(all, n) {
         return Err(Refusal::NoOrder);
     }
-    copy_order(&taken, found, list);
-    Ok(found)
+    copy_order(order, list);
+    Ok(order.len())
 }
 
 // The same, where checks 1 to 10 have been made.
@@ -255,6 +256,7 @@ pub fn order_checked(
 }
 
 // Checks 1 to 10.
+#[tactic(auto, using(image::proofs::Refusing::checking), unfolding(crate::specs::Listing::list_refusal))]
 fn list_refusal(
     image: &[u8],
     table: &[u32],
@@ -272,6 +274,7 @@ fn list_refusal(
 }
 
 // The listed order of a batch whose programs are all settled: each committed program once, and how many there are.
+#[tactic(auto, using(crate::proofs::Orders::order_refused))]
 pub fn order(
     image: &[u8],
     table: &[u32],

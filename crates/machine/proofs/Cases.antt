@@ -1,12 +1,13 @@
--- Document 01, "Instructions" and the slot of "The work area", tried by computation on whole runs, sentence by sentence. A case compares all that came
--- of a run: answer, log, path and the values loaded; or the slot that it leaves, word by word. Assumes nothing.
+-- Document 01, "Instructions" and the slot of "The work area", tried by computation on whole runs, sentence by sentence. A case compares all that
+-- came of a run: answer, log, path and the values loaded; or the slot that it leaves, word by word. Assumes nothing.
 use Rattle.std.proofs.Common.{◌≡◌, ℕ, zero, suc, List, [], ◌∷◌, ◌++◌, map, replicate, refl}
 use Rattle.image.specs.Assembler.{Instruction, end, set, load, store, sub, skipless, skipequal, reject, program}
 use Rattle.guard.specs.Guards.{full_for}
 use Rattle.slot.specs.Log.{Log}
+use Rattle.machine.specs.declared.FaultKind.TheVariants as fault
 use Rattle.machine.specs.declared.Run.{Run}
 use Rattle.machine.specs.declared.Run.TheVariants.{Finished, Rejected, Faulted}
-use Rattle.machine.specs.Runs.{Outcome, load_fault, store_fault, run_of, state_of_run, detail_of_run, slot_of}
+use Rattle.machine.specs.Runs.{Outcome, load_fault, store_fault, kind_number, run_of, state_of_run, detail_of_run, slot_of}
 use Rattle.machine.specs.Opened.{opened}
 
 -- ---- how a case is written
@@ -109,42 +110,44 @@ stored_twice = refl
 
 -- ---- "A cell number of T or more is a fault with a kind and a place: kind 1 at a load, 2 at a store."
 
-kinds : load_fault ∷ store_fault ∷ [] ≡ 1 ∷ 2 ∷ []
+kinds : load_fault ∷ store_fault ∷ map kind_number (fault.Load ∷ fault.Store ∷ []) ≡ 1 ∷ 2 ∷ 1 ∷ 2 ∷ []
 kinds = refl
 
 -- cells T−1 and T of 4 (for stores, case 8 of the bench sheet), and of 256; for T = 1 see case 11
 load_3_and_4 : map (λ c. run (set 1 c ∷ load 0 1 ∷ []) (fives 4)) (3 ∷ 4 ∷ [])
-    ≡ ran Finished (log (3 ∷ []) [] []) (0 ∷ 1 ∷ []) (5 ∷ []) ∷ ran (Faulted 1 1) none (0 ∷ 1 ∷ []) [] ∷ []
+    ≡ ran Finished (log (3 ∷ []) [] []) (0 ∷ 1 ∷ []) (5 ∷ []) ∷ ran (Faulted fault.Load 1) none (0 ∷ 1 ∷ []) [] ∷ []
 unfolding opened
 load_3_and_4 = refl
 
 store_3_and_4 : map (λ c. run (set 0 c ∷ store 0 1 ∷ []) (fives 4)) (3 ∷ 4 ∷ [])
-    ≡ ran Finished (log [] (3 ∷ []) (0 ∷ [])) (0 ∷ 1 ∷ []) [] ∷ ran (Faulted 2 1) none (0 ∷ 1 ∷ []) [] ∷ []
+    ≡ ran Finished (log [] (3 ∷ []) (0 ∷ [])) (0 ∷ 1 ∷ []) [] ∷ ran (Faulted fault.Store 1) none (0 ∷ 1 ∷ []) [] ∷ []
 unfolding opened
 store_3_and_4 = refl
 
 load_255_and_256 : map (λ c. run (set 1 c ∷ load 0 1 ∷ []) (fives 256)) (255 ∷ 256 ∷ [])
-    ≡ ran Finished (log (255 ∷ []) [] []) (0 ∷ 1 ∷ []) (5 ∷ []) ∷ ran (Faulted 1 1) none (0 ∷ 1 ∷ []) [] ∷ []
+    ≡ ran Finished (log (255 ∷ []) [] []) (0 ∷ 1 ∷ []) (5 ∷ []) ∷ ran (Faulted fault.Load 1) none (0 ∷ 1 ∷ []) [] ∷ []
 unfolding opened
 load_255_and_256 = refl
 
 store_255_and_256 : map (λ c. run (set 0 c ∷ store 0 1 ∷ []) (fives 256)) (255 ∷ 256 ∷ [])
-    ≡ ran Finished (log [] (255 ∷ []) (0 ∷ [])) (0 ∷ 1 ∷ []) [] ∷ ran (Faulted 2 1) none (0 ∷ 1 ∷ []) [] ∷ []
+    ≡ ran Finished (log [] (255 ∷ []) (0 ∷ [])) (0 ∷ 1 ∷ []) [] ∷ ran (Faulted fault.Store 1) none (0 ∷ 1 ∷ []) [] ∷ []
 unfolding opened
 store_255_and_256 = refl
 
 -- the largest cell number there is
-load_the_last_number : run (set 1 1 ∷ sub 2 0 1 ∷ load 0 2 ∷ []) (fives 1) ≡ ran (Faulted 1 2) none (0 ∷ 1 ∷ 2 ∷ []) []
+load_the_last_number : run (set 1 1 ∷ sub 2 0 1 ∷ load 0 2 ∷ []) (fives 1) ≡ ran (Faulted fault.Load 2) none (0 ∷ 1 ∷ 2 ∷ []) []
 unfolding opened
 load_the_last_number = refl
 
 -- ---- "States: 1 gathered, 2 rejected, 3 faulted. Detail: the reject code; 256 × kind + instruction number; .. else 0."
 
 -- for both kinds, at the first and at the last instruction
-states : map state_of_run (Finished ∷ Rejected 7 ∷ Faulted 1 0 ∷ Faulted 2 31 ∷ []) ≡ 1 ∷ 2 ∷ 3 ∷ 3 ∷ []
+states : map state_of_run (Finished ∷ Rejected 7 ∷ Faulted fault.Load 0 ∷ Faulted fault.Store 31 ∷ []) ≡ 1 ∷ 2 ∷ 3 ∷ 3 ∷ []
 states = refl
 
-details : map detail_of_run (Finished ∷ Rejected 0 ∷ Rejected 255 ∷ Faulted 1 0 ∷ Faulted 1 31 ∷ Faulted 2 0 ∷ Faulted 2 31 ∷ []) ≡ 0 ∷ 0 ∷ 255 ∷ 256 ∷ 287 ∷ 512 ∷ 543 ∷ []
+details : map detail_of_run
+    (Finished ∷ Rejected 0 ∷ Rejected 255 ∷ Faulted fault.Load 0 ∷ Faulted fault.Load 31 ∷ Faulted fault.Store 0 ∷ Faulted fault.Store 31 ∷ [])
+    ≡ 0 ∷ 0 ∷ 255 ∷ 256 ∷ 287 ∷ 512 ∷ 543 ∷ []
 details = refl
 
 -- the whole slot of a run that finished (case 13: "cell 0 = 2, cell 2 = 3, store through both: reads 0, 2; stores 3")

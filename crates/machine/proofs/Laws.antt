@@ -1,10 +1,12 @@
 -- The laws of a run, for everyone above: what it reads and stores, that its reads decide it, the slot that it leaves, and which programs can
 -- be run. `may` says which values may be stored to which cells: a guard list's judgement, or any other. Assumes nothing.
-use Rattle.std.proofs.Common.{◌≡◌, ℕ, zero, suc, ◌+◌, ◌<◌, ◌≤◌, Bool, true, false, cond, ltb, List, [], ◌∷◌, length, get_or, sym, refl, ◌∙◌, add-zero, arith, length-set, ltb-true}
+use Rattle.std.proofs.Common.{◌≡◌, ℕ, zero, suc, ◌+◌, ◌<◌, ◌≤◌, Bool, true, false, cond, ltb, List, [], ◌∷◌, length, get_or, sym, refl, ◌∙◌, add-zero}
+use Rattle.std.proofs.Common.{arith, length-set, ltb-true}
 use Rattle.base.specs.Words.{has}
 use Rattle.base.proofs.Numbers.{every_at}
 use Rattle.image.specs.Limits.{max_program_bytes}
 use Rattle.image.specs.Instruction.{instructions_of, program_good}
+use Rattle.image.specs.Refusals.{passed as not_refused}
 use Rattle.image.specs.Image.{count_of, refusal_of, part_of, code_good}
 use Rattle.image.proofs.Laws.{accepted, part_short, part_whole}
 use Rattle.slot.specs.Layout.{state_word, detail_word, list_words}
@@ -12,10 +14,11 @@ use Rattle.slot.specs.Log.{Log, empty, loaded, with_read, with_store, log_of, Fi
 use Rattle.slot.proofs.Logs.{Room, read_fits, store_fits, read_room, store_room, empty_room, same_room, read_keeps, store_keeps, loads_agree}
 use Rattle.slot.proofs.Slots.{empty_fits, layout_state, layout_detail, layout_log}
 use Rattle.machine.specs.declared.Machine.{Machine}
+use Rattle.machine.specs.declared.FaultKind.TheVariants as fault
 use Rattle.machine.specs.declared.Run.{Run}
 use Rattle.machine.specs.declared.Run.TheVariants.{Finished, Rejected, Faulted}
 use Rattle.machine.specs.Asks.{Ask, halt, move, fetch, put, start, written, passed, ask_at}
-use Rattle.machine.specs.Runs.{Effect, stop, next, Judge, load_fault, outside, unfit, perform, seen, Outcome, ended, since, follow, run_from, run_by}
+use Rattle.machine.specs.Runs.{Effect, stop, next, Judge, outside, unfit, perform, seen, Outcome, ended, since, follow, run_from, run_by}
 use Rattle.machine.specs.Runs.{state_of_run, detail_of_run, kept, kept_by, slot_of, Runnable, log_after}
 use Rattle.machine.proofs.Asked.{Eight, ask_eight}
 
@@ -33,9 +36,9 @@ module _ (may : Judge) (t : List ℕ) (m : Machine) (l : Log) (P : Effect → Ty
   by_ask (fetch a c) stops moves loads stores = go (ltb c (length t)) refl
     where
       go : (b : Bool) → ltb c (length t) ≡ b
-          → P (cond b (next (written m a (loaded l c (get_or t c 0))) (with_read l c)) (stop (Faulted load_fault m.place) l))
+          → P (cond b (next (written m a (loaded l c (get_or t c 0))) (with_read l c)) (stop (Faulted fault.Load m.place) l))
       go true e = loads a c (ltb-true c (length t) e)
-      go false e = stops (Faulted load_fault m.place)
+      go false e = stops (Faulted fault.Load m.place)
   by_ask (put c v) stops moves loads stores = go (ltb c (length t)) refl
     where
       judged : c < length t → (b : Bool) → P (cond b (next (passed m) (with_store l c v)) (unfit m l))
@@ -126,11 +129,12 @@ run_fits may p t short =
 -- ---- a run depends only on the cells it reads
 
 -- what was read stays read to the end of the run
-run_keeps : (may : Judge) (n : ℕ) (p t : List ℕ) (m : Machine) (l : Log) (d : ℕ) → has d l.reads ≡ true → has d (run_from may n p t m l).log.reads ≡ true
+run_keeps : (may : Judge) (n : ℕ) (p t : List ℕ) (m : Machine) (l : Log) (d : ℕ) → has d l.reads ≡ true
+    → has d (run_from may n p t m l).log.reads ≡ true
 run_keeps may n p t m l d =
     run_log may p t (λ u l'. has d l.reads ≡ true → has d l'.reads ≡ true) (λ u l' h. h)
-    (λ u m' l' h e. by_ask may t m' l' (λ s. has d (log_after s).reads ≡ true) (ask_at p m') (λ r. h e) (λ m'' q. h e) (λ a c q. read_keeps l' c d (h e))
-    (λ c v q q'. store_keeps l' c v d (h e)))
+    (λ u m' l' h e. by_ask may t m' l' (λ s. has d (log_after s).reads ≡ true) (ask_at p m') (λ r. h e) (λ m'' q. h e)
+    (λ a c q. read_keeps l' c d (h e)) (λ c v q q'. store_keeps l' c v d (h e)))
     n 0 m l (λ e. e)
 
 module _ (may : Judge) (p t t' : List ℕ) (same : length t ≡ length t') where
@@ -145,10 +149,11 @@ module _ (may : Judge) (p t t' : List ℕ) (same : length t ≡ length t') where
   turn_same m l (move m') h = (refl, refl)
   turn_same m l (fetch a c) h = rw (← same) (go (ltb c (length t)) h)
     where
-      go : (b : Bool) → Agree (log_after (cond b (next (written m a (loaded l c (get_or t c 0))) (with_read l c)) (stop (Faulted load_fault m.place) l))).reads
+      go : (b : Bool)
+          → Agree (log_after (cond b (next (written m a (loaded l c (get_or t c 0))) (with_read l c)) (stop (Faulted fault.Load m.place) l))).reads
           → (cond b (loaded l c (get_or t' c 0) ∷ []) [] ≡ cond b (loaded l c (get_or t c 0) ∷ []) [])
-          × (cond b (next (written m a (loaded l c (get_or t' c 0))) (with_read l c)) (stop (Faulted load_fault m.place) l)
-          ≡ cond b (next (written m a (loaded l c (get_or t c 0))) (with_read l c)) (stop (Faulted load_fault m.place) l))
+          × (cond b (next (written m a (loaded l c (get_or t' c 0))) (with_read l c)) (stop (Faulted fault.Load m.place) l)
+          ≡ cond b (next (written m a (loaded l c (get_or t c 0))) (with_read l c)) (stop (Faulted fault.Load m.place) l))
       go true g = let e = loads_agree l c (get_or t' c 0) (get_or t c 0) (λ q. sym (g c q)) in (rw e, rw e)
       go false g = (refl, refl)
   turn_same m l (put c v) h = (refl, rw (← same))
@@ -178,8 +183,8 @@ module _ (may : Judge) (p t t' : List ℕ) (same : length t ≡ length t') where
 
 -- "If two tables of one length agree at every cell that the run on the first reads, the run on the second is the same: answer, reads, stores, path
 -- and loads", for rejected and faulted runs too, "with the same guards".
-pub reads_decide : (may : Judge) (p t t' : List ℕ) → length t ≡ length t' → ((c : ℕ) → has c (run_by may p t).log.reads ≡ true → get_or t c 0 ≡ get_or t' c 0)
-    → run_by may p t' ≡ run_by may p t
+pub reads_decide : (may : Judge) (p t t' : List ℕ) → length t ≡ length t'
+    → ((c : ℕ) → has c (run_by may p t).log.reads ≡ true → get_or t c 0 ≡ get_or t' c 0) → run_by may p t' ≡ run_by may p t
 unfolding run_by
 reads_decide may p t t' same agree = run_same may p t t' same (instructions_of p) start empty agree
 
@@ -209,7 +214,7 @@ module _ (may : Judge) (p t : List ℕ) (short : length p ≤ max_program_bytes)
 -- ---- which programs can be run
 
 -- a program of an image that is not refused
-pub part_runnable : (image : List ℕ) → (refusal_of image).number ≡ 0 → (k : ℕ) → k < count_of image → Runnable (part_of image k)
+pub part_runnable : (image : List ℕ) → refusal_of image ≡ not_refused → (k : ℕ) → k < count_of image → Runnable (part_of image k)
 unfolding code_good
 part_runnable image e k h =
     let g = accepted image e in

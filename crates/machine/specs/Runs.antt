@@ -1,6 +1,7 @@
--- Document 01, "Instructions": the run of one program on a table, with guards (document 02, ask 5), how it ends, what it reads and stores, and the slot
--- that it leaves. Assumes nothing.
-use Rattle.std.specs.Prelude.{◌≡◌, ℕ, zero, suc, ◌+◌, ◌*◌, ◌%◌, ◌<◌, ◌≤◌, Bool, true, false, cond, List, [], ◌∷◌, ◌++◌, length, replicate, nat_lt, slice_index}
+-- Document 01, "Instructions": the run of one program on a table, with guards (document 02, ask 5), how it ends, what it reads and stores, and the
+-- slot that it leaves. Assumes nothing.
+use Rattle.std.specs.Prelude.{◌≡◌, ℕ, zero, suc, ◌+◌, ◌*◌, ◌%◌, ◌<◌, ◌≤◌, Bool, true, false, cond, Some, None, List, [], ◌∷◌, ◌++◌, length, replicate}
+use Rattle.std.specs.Prelude.{nat_lt, slice_index}
 use Rattle.image.specs.Limits.{registers, instruction_bytes, max_instructions, max_program_bytes}
 use Rattle.image.specs.Instruction.{instructions_of, program_good}
 use Rattle.guard.specs.Guards.{guard_words, admits}
@@ -10,7 +11,8 @@ use Rattle.slot.specs.Log.{Log, empty, loaded, with_read, with_store, layout, Ho
 use Rattle.machine.specs.declared.Machine.{Machine}
 use Rattle.machine.specs.declared.Run.{Run}
 use Rattle.machine.specs.declared.Run.TheVariants.{Finished, Rejected, Faulted}
-use Rattle.machine.specs.declared.Turn.TheVariants.{Next, Stop}
+use Rattle.machine.specs.declared.FaultKind.{FaultKind}
+use Rattle.machine.specs.declared.FaultKind.TheVariants as fault
 use Rattle.machine.specs.declared.Turned.{Turned}
 use Rattle.machine.specs.declared.Ended.{Ended}
 use Rattle.machine.specs.declared.Store.{Store}
@@ -34,6 +36,12 @@ store_fault = 2
 abbrev pub guard_fault : ℕ
 guard_fault = 3
 
+-- each kind's number
+abbrev pub kind_number : FaultKind → ℕ
+kind_number fault.Load = load_fault
+kind_number fault.Store = store_fault
+kind_number fault.Guard = guard_fault
+
 -- which values may be stored to which cells
 abbrev pub Judge : Type 0
 Judge = (c v : ℕ) → Bool
@@ -41,14 +49,14 @@ Judge = (c v : ℕ) → Bool
 -- register a is to get cell number c, on the table t, from the log l
 abbrev pub loading : List ℕ → Machine → Log → (a c : ℕ) → Effect
 loading t m l a c =
-    cond (nat_lt c (length t)) (next (written m a (loaded l c (slice_index t c))) (with_read l c)) (stop (Faulted load_fault m.place) l)
+    cond (nat_lt c (length t)) (next (written m a (loaded l c (slice_index t c))) (with_read l c)) (stop (Faulted fault.Load m.place) l)
 
 -- a store outside the table, and one of a value that its cell's guard does not admit
 abbrev pub outside : Machine → Log → Effect
-outside m l = stop (Faulted store_fault m.place) l
+outside m l = stop (Faulted fault.Store m.place) l
 
 abbrev pub unfit : Machine → Log → Effect
-unfit m l = stop (Faulted guard_fault m.place) l
+unfit m l = stop (Faulted fault.Guard m.place) l
 
 -- cell number c is to get v; "Kind 2 comes before kind 3."
 abbrev pub storing : Judge → List ℕ → Machine → Log → (c v : ℕ) → Effect
@@ -70,8 +78,8 @@ seen t l (put c v) = []
 
 -- ---- the run
 
--- How a run ended, all it read and stored on the way, and, for demand 3, the places visited and the values loaded, in order; and the machine at its end,
--- which has not moved on from an instruction that stopped the run.
+-- How a run ended, all it read and stored on the way, and, for demand 3, the places visited and the values loaded, in order; and the machine at its
+-- end, which has not moved on from an instruction that stopped the run.
 pub record Outcome : Type 0 where
   pub answer : Run
   pub log : Log
@@ -130,7 +138,7 @@ state_of_run (Faulted kind at) = faulted
 abbrev pub detail_of_run : Run → ℕ
 detail_of_run Finished = 0
 detail_of_run (Rejected code) = code
-detail_of_run (Faulted kind at) = 256 * kind + at
+detail_of_run (Faulted kind at) = 256 * kind_number kind + at
 
 -- "A program that rejects or faults stores nothing, reserves nothing"; "A rejected or faulted slot has only state and detail."
 abbrev pub keeps : Run → Bool
@@ -178,8 +186,8 @@ log_after (next m l) = l
 
 -- a turn's answer; a machine that stops stays as it was
 abbrev pub turned : Machine → Effect → Turned
-turned m (stop r l) = record { turn = Stop r; machine = m }
-turned m (next m' l) = record { turn = Next; machine = m' }
+turned m (stop r l) = record { stopped = Some r; machine = m }
+turned m (next m' l) = record { stopped = None; machine = m' }
 
 -- What a turn leaves that had an effect: its answer, and the slot.
 pub record Did (m : Machine) (s : Effect) (r : Turned) (slot : List ℕ) : Type 0 where

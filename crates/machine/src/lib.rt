@@ -8,7 +8,7 @@ ghost use Rattle.slot.specs.States.{waiting};
 ghost use Rattle.slot.specs.Layout.{slot_words};
 ghost use Rattle.slot.specs.Log.{empty, layout, log_of};
 ghost use Rattle.machine.specs.Asks.{start, reg, written, passed, skipped, added, subtracted, byte_here, ask_of};
-ghost use Rattle.machine.specs.Runs.{stop, next, loading, storing, perform, run_of, state_of_run, detail_of_run, keeps, kept, turned};
+ghost use Rattle.machine.specs.Runs.{kind_number, stop, next, loading, storing, perform, run_of, state_of_run, detail_of_run, keeps, kept, turned};
 ghost use Rattle.machine.specs.Runs.{store_at, Named, Ready, Did, Begins, Ends, CanRun, RunSays, LastStore};
 
 // The eight registers and the place: the number of the instruction that is next.
@@ -18,20 +18,37 @@ pub struct Machine {
     pub place: usize,
 }
 
+// The kinds of a fault: a load, or a store, of a cell outside the table, and a store of a value that the cell's guard does not admit.
+#[derive(Clone, Copy, PartialEq, Eq)]
+pub enum FaultKind {
+    Load = 1,
+    Store = 2,
+    Guard = 3,
+}
+
+impl FaultKind {
+    // A kind's number in a detail.
+    pub fn number(self) -> u8
+        ensures { result ≡ kind_number self }
+    {
+        self as u8
+    }
+}
+
+// The kinds' numbers, for who reads a detail back.
+pub const LOAD_FAULT: u8 = FaultKind::Load as u8;
+
+pub const STORE_FAULT: u8 = FaultKind::Store as u8;
+
+pub const GUARD_FAULT: u8 = FaultKind::Guard as u8;
+
 // How a run ended.
-#[derive(Clone, Copy)]
+#[derive(Clone, Copy, PartialEq, Eq)]
 pub enum Run {
     Finished,
     Rejected(u8),
-    Faulted { kind: u8, at: u8 },
+    Faulted { kind: FaultKind, at: u8 },
 }
-
-// The kinds of a fault: a load, or a store, of a cell outside the table, and a store of a value that the cell's guard does not admit.
-pub const LOAD_FAULT: u8 = 1;
-
-pub const STORE_FAULT: u8 = 2;
-
-pub const GUARD_FAULT: u8 = 3;
 
 // A fault's detail is so many times its kind, and then the instruction number.
 pub const KIND_UNIT: u32 = 256;
@@ -43,16 +60,10 @@ pub struct Store {
     pub value: u32,
 }
 
-// What a turn gives: the run goes on with the machine, or stops.
-#[derive(Clone, Copy)]
-pub enum Turn {
-    Next,
-    Stop(Run),
-}
-
+// What a turn gives: how the run ended, if it stops, and the machine.
 #[derive(Clone, Copy)]
 pub struct Turned {
-    pub turn: Turn,
+    pub stopped: Option<Run>,
     pub machine: Machine,
 }
 
@@ -72,8 +83,7 @@ impl Machine {
         requires { a < registers }
         ensures { result ≡ reg self a }
     {
-        let i = a as usize;
-        self.registers[i]
+        self.registers[a as usize]
     }
 
     // The register that a byte names, 0 where it names none.
@@ -81,10 +91,7 @@ impl Machine {
         requires { length self.registers ≡ registers }
         ensures { result ≡ reg self a }
     {
-        if (a as usize) < image::Image::REGISTERS {
-            return self.register(a);
-        }
-        0
+        self.registers.get(a as usize).copied().unwrap_or(0)
     }
 
     // A byte of the instruction at this place, 0 past the end.
@@ -92,11 +99,11 @@ impl Machine {
         requires { (length program.now ≤ max_program_bytes) × (k < instruction_bytes) }
         ensures { result ≡ byte_here program.now self k }
     {
-        let place = self.place;
-        if place < image::Image::INSTRUCTIONS {
-            return image::byte_at(program, image::Image::INSTRUCTION_BYTES * place + k);
+        if self.place < image::Image::INSTRUCTIONS {
+            image::byte_at(program, image::Image::INSTRUCTION_BYTES * self.place + k)
+        } else {
+            0
         }
-        0
     }
 
     // The store that the instruction at this place names.
@@ -104,9 +111,10 @@ impl Machine {
         requires { (length program.now ≤ max_program_bytes) × (length self.registers ≡ registers) }
         ensures { result ≡ store_at program.now self }
     {
-        let cell = self.named(self.byte_here(program, 1));
-        let value = self.named(self.byte_here(program, 2));
-        Store { cell, value }
+        Store {
+            cell: self.named(self.byte_here(program, 1)),
+            value: self.named(self.byte_here(program, 2)),
+        }
     }
 
     // On to the next instruction, with v in register a.
@@ -114,10 +122,8 @@ impl Machine {
         requires { (a < registers) × (self.place < max_instructions) }
         ensures { result ≡ written self a v }
     {
-        let i = a as usize;
-        let mut next = self;
-        next.registers[i] = v;
-        next.place = next.place + 1;
+        let mut next = self.passed();
+        next.registers[a as usize] = v;
         next
     }
 
@@ -127,7 +133,7 @@ impl Machine {
         ensures { result ≡ passed self }
     {
         let mut next = self;
-        next.place = next.place + 1;
+        next.place += 1;
         next
     }
 
@@ -138,7 +144,7 @@ impl Machine {
     {
         let mut next = self.passed();
         if test {
-            next.place = next.place + c as usize;
+            next.place += c as usize;
         }
         next
     }
@@ -147,27 +153,21 @@ impl Machine {
         requires { (a < registers) × (self.place < max_instructions) }
         ensures { result ≡ written self a (256 * b + c) }
     {
-        self.written(a, 256 * (b as u32) + (c as u32))
+        self.written(a, 256 * u32::from(b) + u32::from(c))
     }
 
     fn add(self, a: u8, b: u8, c: u8) -> Machine
         requires { (a < registers) × (b < registers) × (c < registers) × (self.place < max_instructions) }
         ensures { result ≡ written self a (added (reg self b) (reg self c)) }
     {
-        self.written(
-            a,
-            std::num::wrapping_add_u32(self.register(b), self.register(c)),
-        )
+        self.written(a, self.register(b).wrapping_add(self.register(c)))
     }
 
     fn sub(self, a: u8, b: u8, c: u8) -> Machine
         requires { (a < registers) × (b < registers) × (c < registers) × (self.place < max_instructions) }
         ensures { result ≡ written self a (subtracted (reg self b) (reg self c)) }
     {
-        self.written(
-            a,
-            std::num::wrapping_sub_u32(self.register(b), self.register(c)),
-        )
+        self.written(a, self.register(b).wrapping_sub(self.register(c)))
     }
 
     fn skip_less(self, a: u8, b: u8, c: u8) -> Machine
@@ -189,7 +189,7 @@ impl Machine {
         ensures { result ≡ turned self (next self empty) }
     {
         Turned {
-            turn: Turn::Next,
+            stopped: None,
             machine: self,
         }
     }
@@ -199,13 +199,13 @@ impl Machine {
         ensures { result ≡ turned self (stop run empty) }
     {
         Turned {
-            turn: Turn::Stop(run),
+            stopped: Some(run),
             machine: self,
         }
     }
 
     // The run stops with a fault at this place.
-    fn faults(self, kind: u8) -> Turned
+    fn faults(self, kind: FaultKind) -> Turned
         requires { self.place < max_instructions }
         ensures { result ≡ turned self (stop (Run.Faulted kind self.place) empty) }
     {
@@ -214,21 +214,23 @@ impl Machine {
     }
 
     // Register a gets cell number r[b]: the value that the run has stored there, or the table's, which is then a read.
+    #[tactic(auto, using(slot::proofs::Noted::fresh_value, slot::proofs::Noted::own_value, slot::proofs::Noted::own_read))]
     fn load(self, a: u8, b: u8, table: &[u32], slot: &mut [u32]) -> Turned
         requires { Ready self slot.old × (a < registers) × (b < registers) }
         ensures { Did self (loading table.now self (log_of slot.old) a (reg self b)) result slot.new }
     {
         let c = self.register(b);
         let i = c as usize;
-        if i < table.len() {
-            let k = slot::stored_place(slot, c);
-            if k == 0 {
-                slot::note_read(slot, c);
-                return self.written(a, table[i]).goes();
-            }
-            return self.written(a, slot[slot::VALUES + k - 1]).goes();
+        if i >= table.len() {
+            return self.faults(FaultKind::Load);
         }
-        self.faults(LOAD_FAULT)
+        match slot::stored_place(slot, c) {
+            Some(k) => self.written(a, slot[slot::VALUES + k]).goes(),
+            None => {
+                slot::note_read(slot, c);
+                self.written(a, table[i]).goes()
+            }
+        }
     }
 
     // Cell number r[a] gets r[b], where its guard admits that value.
@@ -239,17 +241,18 @@ impl Machine {
         let c = self.register(a);
         let v = self.register(b);
         let i = c as usize;
-        if i < table.len() {
-            if guard::admits(guards, i, v) {
-                slot::note_store(slot, c, v);
-                return self.passed().goes();
-            }
-            return self.faults(GUARD_FAULT);
+        if i >= table.len() {
+            return self.faults(FaultKind::Store);
         }
-        self.faults(STORE_FAULT)
+        if !guard::admits(guards, i, v) {
+            return self.faults(FaultKind::Guard);
+        }
+        slot::note_store(slot, c, v);
+        self.passed().goes()
     }
 
     // One turn: the instruction op, a, b, c.
+    #[tactic(auto, unfolding(crate::specs::Asks::ask_of, crate::specs::Runs::perform))]
     fn step(
         self,
         op: u8,
@@ -303,18 +306,9 @@ fn take_turns(program: &[u8], table: &[u32], guards: &[u32], slot: &mut [u32]) -
             guards,
             slot,
         );
-        let turn = turned.turn;
-        let after = turned.machine;
-        match turn {
-            Turn::Stop(run) => {
-                return Ended {
-                    run,
-                    machine: after,
-                };
-            }
-            Turn::Next => {
-                machine = after;
-            }
+        machine = turned.machine;
+        if let Some(run) = turned.stopped {
+            return Ended { run, machine };
         }
     }
     Ended {
@@ -330,7 +324,7 @@ pub fn state_of(run: Run) -> u32
     match run {
         Run::Finished => slot::GATHERED,
         Run::Rejected(_) => slot::REJECTED,
-        Run::Faulted { kind: _, at: _ } => slot::FAULTED,
+        Run::Faulted { .. } => slot::FAULTED,
     }
 }
 
@@ -340,8 +334,8 @@ pub fn detail_of(run: Run) -> u32
 {
     match run {
         Run::Finished => 0,
-        Run::Rejected(code) => code as u32,
-        Run::Faulted { kind, at } => KIND_UNIT * (kind as u32) + (at as u32),
+        Run::Rejected(code) => u32::from(code),
+        Run::Faulted { kind, at } => KIND_UNIT * u32::from(kind.number()) + u32::from(at),
     }
 }
 
@@ -349,25 +343,22 @@ pub fn detail_of(run: Run) -> u32
 fn keeps(run: Run) -> bool
     ensures { result ≡ keeps run }
 {
-    match run {
-        Run::Finished => true,
-        Run::Rejected(_) => false,
-        Run::Faulted { kind: _, at: _ } => false,
-    }
+    matches!(run, Run::Finished)
 }
 
 // A run that rejects or faults keeps nothing of it.
+#[tactic(auto, using(slot::proofs::Slots::layout_waiting))]
 fn drop_log(slot: &mut [u32], run: Run)
     requires { (length slot.old ≡ slot_words) × (slot.old ≡ layout waiting 0 (log_of slot.old)) }
     ensures { slot.new ≡ layout waiting 0 (kept run (log_of slot.old)) }
 {
-    if keeps(run) {
-        return;
+    if !keeps(run) {
+        slot::clear(slot);
     }
-    slot::clear(slot);
 }
 
 // The slot of a run that has ended: a rejected or faulted one has only state and detail.
+#[tactic(auto, using(slot::proofs::Slots::layout_again))]
 fn finish(slot: &mut [u32], run: Run)
     requires { (length slot.old ≡ slot_words) × (slot.old ≡ layout waiting 0 (log_of slot.old)) }
     ensures { slot.new ≡ layout (state_of_run run) (detail_of_run run) (kept run (log_of slot.old)) }
@@ -378,25 +369,26 @@ fn finish(slot: &mut [u32], run: Run)
 }
 
 // The run of a program on a table, with the table's guards: its answer, and its whole slot.
+#[tactic(auto, using(crate::proofs::Ends::outcome_log, crate::proofs::Ends::outcome_words, crate::proofs::Ends::end_is))]
 pub fn run_program(program: &[u8], table: &[u32], guards: &[u32], slot: &mut [u32]) -> Run
     requires { CanRun program.now table.now guards.now slot.old }
     ensures { RunSays program.now table.now guards.now result slot.new }
 {
     slot::clear(slot);
-    let ended = take_turns(program, table, guards, slot);
-    let run = ended.run;
+    let run = take_turns(program, table, guards, slot).run;
     finish(slot, run);
     run
 }
 
-// The store at which a program's run stopped, where it did: the cell and the value that the instruction at its end names. It runs the program again, in a slot
-// that is lent for it.
+// The store at which a program's run stopped, where it did: the cell and the value that the instruction at its end names. It runs the program again,
+// in a slot that is lent for it.
+#[tactic(auto, using(crate::proofs::Laws::last_registers))]
 pub fn last_store(program: &[u8], table: &[u32], guards: &[u32], slot: &mut [u32]) -> Store
     requires { CanRun program.now table.now guards.now slot.old }
     ensures { LastStore program.now table.now guards.now result slot.new }
 {
     slot::clear(slot);
-    let ended = take_turns(program, table, guards, slot);
-    let machine = ended.machine;
-    machine.store_here(program)
+    take_turns(program, table, guards, slot)
+        .machine
+        .store_here(program)
 }

@@ -1,8 +1,6 @@
 -- No second result: for each function, two results that meet its contract at the same arguments are the same. Assumes nothing.
-use mathlib.Core.Path.{◌≡◌, sym, ◌∙◌}
-use Prim.Native.Nat.{ℕ, ◌<◌}
-use native.Mathlib.Decide.{dec_lt}
-use native.Mathlib.Omega.{arith}
+use Rattle.std.proofs.Common.{inl, inr, ◌⊎◌, ◌≤◌, ◌≡◌, sym, ◌∙◌, ℕ, ◌<◌, arith}
+use Rattle.std.proofs.lemmas.Bool.{cases_lt}
 use Rattle.base.specs.Unique.{Unique}
 use Rattle.base.specs.Masks.{Least}
 use Rattle.base.proofs.Bools.{clash}
@@ -30,12 +28,12 @@ pub all_unique : Unique 0 all_kinds.ps all_kinds.r (λ κs x s. x) all.Post
 all_unique κs a x y s t p q = p ∙ sym q
 
 one_least : (members x y : ℕ) → Least members x → Least members y → x ≡ y
-one_least members x y p q = go (dec_lt x y) (dec_lt y x)
+one_least members x y p q = go (cases_lt x y) (cases_lt y x)
   where
-    go : Dec (x < y) → Dec (y < x) → x ≡ y
-    go (yes l) d = clash p.member (q.none_below x l)
-    go (no l) (yes m) = clash q.member (p.none_below y m)
-    go (no l) (no m) = omega arith
+    go : (x < y) ⊎ (y ≤ x) → (y < x) ⊎ (x ≤ y) → x ≡ y
+    go (inl l) d = clash p.member (q.none_below x l)
+    go (inr l) (inl m) = clash q.member (p.none_below y m)
+    go (inr l) (inr m) = omega arith
 
 pub least_unique : Unique 0 least_kinds.ps least_kinds.r (λ κs x s. x) least.Post
 least_unique κs a x y s t p q = one_least _ x y p q

@@ -2,6 +2,7 @@
 -- accepted. Table and guards may be changed between two batches. Assumes nothing.
 use Rattle.std.specs.Prelude.{ℕ, zero, suc, ◌≤◌, ◌<◌, ◌≡◌, true, List, length}
 use Rattle.base.specs.Words.{count}
+use Rattle.image.specs.Refusals.{passed}
 use Rattle.image.specs.Image.{count_of, part_of}
 use Rattle.slot.specs.declared.Group.TheVariants.{Carried}
 use Rattle.slot.specs.States.{carried, is_done}
@@ -14,7 +15,7 @@ pub record Batches (last : ℕ) (images tables guards : ℕ → List ℕ) (world
   pub fresh : ℕ → List ℕ
   pub out : ℕ → List ℕ
   pub ends : (i : ℕ) → i ≤ last → RunToEnd (images i) (tables i) (guards i) (worlds i)
-  pub accepted : (i : ℕ) → i < last → (next_refusal (images i) (worlds i).table (guards i) (worlds i).area (fresh i) (out i)).number ≡ 0
+  pub accepted : (i : ℕ) → i < last → next_refusal (images i) (worlds i).table (guards i) (worlds i).area (fresh i) (out i) ≡ passed
   pub follows : (i : ℕ) → i < last → images (suc i) ≡ next_image (length (worlds i).table) (images i) (worlds i).area (fresh i)
 
 -- batch i's own table size and the state of its program q

@@ -1,16 +1,15 @@
 -- Document 02, ask 3, "prove it of the programs' own runs from the opening table": what it means that an answer is true of the paper's batch. There is no
 -- work area in sight. Assumes nothing.
-use Rattle.std.specs.Prelude.{ℕ, ◌≤◌, ◌<◌, ◌≡◌, Bool, true, false, not, cond, ◌&&◌, List, [], ◌∷◌, eqb}
+use Rattle.std.specs.Prelude.{ℕ, ◌≤◌, ◌<◌, ◌≡◌, Bool, true, false, not, cond, ◌&&◌, List, [], ◌∷◌, eqb, Option, Some, None, Result, Ok, Err}
 use Rattle.base.specs.Words.{has}
 use Rattle.slot.specs.declared.ListKind.{ListKind}
 use Rattle.slot.specs.declared.ListKind.TheVariants.{Reads, Stores}
 use Rattle.slot.specs.Log.{cells_of}
+use Rattle.image.specs.declared.refusals.Refusal.{Refusal}
 use Rattle.steps.specs.declared.Reason.TheVariants as reason
 use Rattle.causes.specs.declared.answers.Cause.{Cause}
 use Rattle.causes.specs.declared.answers.Why.{Why}
 use Rattle.causes.specs.declared.answers.Why.TheVariants as why
-use Rattle.causes.specs.declared.answers.Before.{Before}
-use Rattle.causes.specs.declared.answers.Before.TheVariants as before
 use Rattle.promises.specs.Paper.{Batch, sets, keeps_stores, gets_settled, raw, commits, reason}
 
 -- program k is carried: it is settled and does not commit
@@ -40,19 +39,19 @@ abbrev pub TrueWar : Batch → ℕ → Cause → Type 0
 TrueWar = TrueCause Stores Reads
 
 -- the answer is no refusal, its reason is the paper's, and its cause is true, or both its causes are
-abbrev pub TrueOf : Batch → ℕ → Why → Type 0
-TrueOf b k (why.Refused r) = ⊥
-TrueOf b k (why.Waw cause) = (reason b k ≡ reason.Waw) × TrueWaw b k cause
-TrueOf b k (why.Raw cause) = (reason b k ≡ reason.Raw) × TrueRaw b k cause
-TrueOf b k (why.RawWithWar raw war) = (reason b k ≡ reason.RawWithWar) × TrueRaw b k raw × TrueWar b k war
+abbrev pub TrueOf : Batch → ℕ → Result Why Refusal → Type 0
+TrueOf b k (Err r) = ⊥
+TrueOf b k (Ok (why.Waw cause)) = (reason b k ≡ reason.Waw) × TrueWaw b k cause
+TrueOf b k (Ok (why.Raw cause)) = (reason b k ≡ reason.Raw) × TrueRaw b k cause
+TrueOf b k (Ok (why.RawWithWar raw war)) = (reason b k ≡ reason.RawWithWar) × TrueRaw b k raw × TrueWar b k war
 
 -- ---- before whom a program comes
 
 -- the answer is no refusal: nobody, and then the program has no RAW, or the cause of its RAW
-abbrev pub TrueBefore : Batch → ℕ → Before → Type 0
-TrueBefore b k (before.Refused r) = ⊥
-TrueBefore b k before.Nobody = raw b k ≡ false
-TrueBefore b k (before.Program cause) = TrueRaw b k cause
+abbrev pub TrueBefore : Batch → ℕ → Result (Option Cause) Refusal → Type 0
+TrueBefore b k (Err r) = ⊥
+TrueBefore b k (Ok None) = raw b k ≡ false
+TrueBefore b k (Ok (Some cause)) = TrueRaw b k cause
 
 -- k stands behind i in a list
 unfoldable pub behind : (k i : ℕ) → List ℕ → Bool

@@ -2,6 +2,7 @@
 -- same guards" (document 02, ask 5). A refused step changes nothing, as the contracts say. Assumes nothing.
 use Rattle.std.specs.Prelude.{ℕ, ◌<◌, ◌≡◌, Bool, true, false, ◌||◌, List, [], ◌∷◌, eqb, length}
 use Rattle.image.specs.Image.{count_of}
+use Rattle.image.specs.Refusals.{passed}
 use Rattle.area.specs.Checks.{open_refusal, all_ended}
 use Rattle.steps.specs.Opening.{open_area}
 use Rattle.steps.specs.Gathering.{gather_area}
@@ -54,6 +55,6 @@ pub record Whole (image t g : List ℕ) (first second : List Step) : Type 0 wher
 pub record RunToEnd (image t g : List ℕ) (w : World) : Type 0 where
   pub found : List ℕ
   pub history : List Step
-  pub opens : (open_refusal image t g found).number ≡ 0
+  pub opens : open_refusal image t g found ≡ passed
   pub plays : w ≡ world_after image t g found history
   pub over : is_over image w ≡ true

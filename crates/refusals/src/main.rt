@@ -6,6 +6,8 @@
 ghost use Rattle.std.specs.Prelude.{◌≡◌, ◌<◌, ◌≤◌, length};
 ghost use Rattle.area.specs.Layout.{area_words, slot_start};
 
+use sheetbendle::{Refusal, RefusalNumbers};
+
 const CELLS: usize = 3;
 
 const PROGRAMS: usize = 3;
@@ -97,6 +99,11 @@ fn put(area: &mut [u32], at: usize, value: u32)
     area[at] = value;
 }
 
+// The number of an answer, 0 where it is no refusal.
+fn number_of<T: Copy>(answer: Result<T, Refusal>) -> u32 {
+    RefusalNumbers::from(answer.map(|_| ())).number
+}
+
 // Prints what was asked and the number that came back.
 fn show(what: &[u8], number: u32) {
     io::write_all(1, what);
@@ -108,7 +115,7 @@ fn show(what: &[u8], number: u32) {
 // Shows what opening says with case 2's image.
 fn show_open(what: &[u8], table: &[u32], guards: &[u32], area: &mut [u32]) {
     let image = example();
-    show(what, sheetbendle::open(&image, table, guards, area).number);
+    show(what, number_of(sheetbendle::open(&image, table, guards, area)));
 }
 
 // Shows what gathering says with case 2's image.
@@ -138,10 +145,8 @@ fn show_order(what: &[u8], table: &[u32], area: &[u32], entries: usize)
 {
     let image = example();
     let mut list = [0; PROGRAMS];
-    match sheetbendle::order(&image, table, &FREE, area, &mut list[0..entries]) {
-        sheetbendle::Listed::Refused(refusal) => show(what, refusal.number),
-        sheetbendle::Listed::Count(_) => show(what, 0),
-    }
+    let answer = sheetbendle::order(&image, table, &FREE, area, &mut list[0..entries]);
+    show(what, number_of(answer));
 }
 
 // Shows what the next image says with case 2's image and a fresh one, into an output of so many bytes.
@@ -150,10 +155,8 @@ fn show_next(what: &[u8], table: &[u32], area: &[u32], fresh: &[u8], room: usize
 {
     let image = example();
     let mut out = [0; ROOM];
-    match sheetbendle::next_image(&image, table, &FREE, area, fresh, &mut out[0..room]) {
-        sheetbendle::Next::Refused(refusal) => show(what, refusal.number),
-        sheetbendle::Next::Length(_) => show(what, 0),
-    }
+    let answer = sheetbendle::next_image(&image, table, &FREE, area, fresh, &mut out[0..room]);
+    show(what, number_of(answer));
 }
 
 // Row 5, at opening.

@@ -5,6 +5,8 @@
 
 ghost use Rattle.std.specs.Prelude.{◌≡◌, ◌<◌, ◌≤◌, length};
 
+use sheetbendle::{Refusal, RefusalNumbers};
+
 // The good image's header, three programs of three instructions, and the whole.
 const HEAD: usize = 12;
 
@@ -58,14 +60,15 @@ fn put_instruction(image: &mut [u8], p: usize, i: usize, instruction: [u8; 4])
 }
 
 // Prints the number that came back, and of a bad instruction its place.
-fn show(refusal: sheetbendle::Refusal) {
+fn show(answer: Result<(), Refusal>) {
+    let numbers = RefusalNumbers::from(answer);
     io::write_all(1, b": ");
-    io::print_decimal(1, refusal.number as u64);
-    if sheetbendle::Refusal::OPERATION.number <= refusal.number {
+    io::print_decimal(1, numbers.number as u64);
+    if 41 <= numbers.number {
         io::write_all(1, b" at ");
-        io::print_decimal(1, refusal.program as u64);
+        io::print_decimal(1, numbers.program as u64);
         io::write_all(1, b" ");
-        io::print_decimal(1, refusal.instruction as u64);
+        io::print_decimal(1, numbers.instruction as u64);
     }
     io::write_all(1, b"\n");
 }
@@ -91,10 +94,8 @@ fn show_fresh(what: &[u8], fresh: &[u8]) {
     let mut out = [0; IMAGE];
     io::write_all(1, what);
     io::write_all(1, b", fresh");
-    match sheetbendle::next_image(&image, &[0], &[0, 0], &[0, 0], fresh, &mut out) {
-        sheetbendle::Next::Refused(refusal) => show(refusal),
-        sheetbendle::Next::Length(_) => show(sheetbendle::Refusal::NONE),
-    }
+    let answer = sheetbendle::next_image(&image, &[0], &[0, 0], &[0, 0], fresh, &mut out);
+    show(answer.map(|_| ()));
 }
 
 // Shows what the three calls say of an image.

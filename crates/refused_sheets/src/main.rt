@@ -2,6 +2,8 @@
 // asked and what came back. Each line of the output is one call.
 #![tactic(auto)]
 
+use sheetbendle::{Refusal, RefusalNumbers, Unwritten};
+
 // Room for the image of a sheet of 64 programs without instructions, and of one program of 32.
 const ROOM: usize = 136;
 
@@ -37,18 +39,19 @@ fn print_number(words: &[u8], number: u64) {
 }
 
 // The number, and which instruction is bad: 0 and 0 where it is none.
-fn print_refusal(refusal: sheetbendle::Refusal) {
-    print_number(b": ", refusal.number as u64);
-    print_number(b", program ", refusal.program as u64);
-    print_number(b", instruction ", refusal.instruction as u64);
+fn print_refusal(refusal: Refusal) {
+    let numbers = RefusalNumbers::from(refusal);
+    print_number(b": ", numbers.number as u64);
+    print_number(b", program ", numbers.program as u64);
+    print_number(b", instruction ", numbers.instruction as u64);
 }
 
-fn print_answer(asked: &[u8], answer: sheetbendle::Written) {
+fn print_answer(asked: &[u8], answer: Result<usize, Unwritten>) {
     io::write_all(1, asked);
     match answer {
-        sheetbendle::Written::Length(length) => print_number(b": 0, length ", length as u64),
-        sheetbendle::Written::BadLine(line) => print_number(b": 51, line ", line as u64),
-        sheetbendle::Written::Refused(refusal) => print_refusal(refusal),
+        Ok(length) => print_number(b": 0, length ", length as u64),
+        Err(Unwritten::BadLine(line)) => print_number(b": 51, line ", line as u64),
+        Err(Unwritten::Refused(refusal)) => print_refusal(refusal),
     }
     io::write_all(1, b"\n");
 }
@@ -68,7 +71,8 @@ fn short_image(asked: &[u8], sheet: &[u8]) {
 // The sheet of an image, in the room of a sheet of one program and one instruction.
 fn sheet(asked: &[u8], image: &[u8]) {
     let mut out = [0u8; RULE + PROGRAM + END];
-    print_answer(asked, sheetbendle::sheet_of(image, &mut out));
+    let answer = sheetbendle::sheet_of(image, &mut out);
+    print_answer(asked, answer.map_err(Unwritten::Refused));
 }
 
 fn lines() {

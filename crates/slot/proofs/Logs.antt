@@ -1,17 +1,13 @@
 -- What a read and a store do to a log: it still fits, with at most one entry more, and no read is lost. Assumes nothing.
-use Prim.Native.Nat.{ℕ, zero, suc, ◌+◌, ◌≤◌, ◌<◌}
-use mathlib.Core.Bool.{true}
-use mathlib.Core.Path.{◌≡◌, refl}
-use mathlib.Core.List.{List}
-use native.Mathlib.Omega.{arith}
-use lib.ListN.{length, length-set}
+use Rattle.std.proofs.Common.{ℕ, zero, suc, ◌+◌, ◌≤◌, ◌<◌, true, ◌≡◌, refl, List, arith, length, length-set}
+use Rattle.std.proofs.lemmas.List.{length_push}
 use Rattle.base.specs.Words.{has}
 use Rattle.slot.specs.declared.ListKind.{ListKind}
 use Rattle.slot.specs.declared.ListKind.TheVariants.{Reads, Stores}
 use Rattle.slot.specs.Layout.{list_words}
 use Rattle.slot.specs.Log.{Log, cells_of, empty, place_in, once_by, once, value_by, loaded, reads_by, with_read, values_by, with_store, Fits}
 use Rattle.slot.proofs.ListKinds.{each_kind}
-use Rattle.slot.proofs.Places.{length_snoc, once_length, once_has, once_keeps, once_below, once_distinct}
+use Rattle.slot.proofs.Places.{once_length, once_has, once_keeps, once_below, once_distinct}
 
 -- at most n reads and n stored cells
 pub record Room (n : ℕ) (l : Log) : Type 0 where
@@ -42,7 +38,7 @@ module _ (T n : ℕ) (l : Log) (fits : Fits T l) (room : Room n l) (under : n < 
   read_fits c h = reads_by_fits c (place_in c l.cells) h
 
   values_by_paired : (c v k : ℕ) → length (values_by k v l.values) ≡ length (once_by k c l.cells)
-  values_by_paired c v zero = omega (arith, length_snoc l.values v, length_snoc l.cells c, fits.paired)
+  values_by_paired c v zero = omega (arith, length_push l.values v, length_push l.cells c, fits.paired)
   values_by_paired c v (suc k) = omega (arith, length-set l.values k v, fits.paired)
 
   pub store_fits : (c v : ℕ) → c < T → Fits T (with_store l c v)

@@ -1,24 +1,30 @@
 -- A cell's place in a list, and a list with the cell once. Assumes nothing.
-use Prim.Native.Nat.{ℕ, zero, suc, ◌+◌, ◌-◌, ◌≤◌, ◌<◌}
-use mathlib.Core.Bool.{Bool, true, false, not, cond}
-use mathlib.Core.Logic.{◌⊎◌, inl, inr}
-use mathlib.Core.Path.{◌≡◌, refl, sym, ap, ◌∙◌}
-use mathlib.Core.List.{List, [], ◌∷◌, ◌++◌}
-use native.Mathlib.Numerals.{add-one}
-use native.Mathlib.Omega.{arith}
-use lib.ListN.{length, get_or, length-append}
-use lib.Dec.{eqb}
-use borrow.Author.Tests.{eqb-true, eq-eqb, ne_eqb}
-use Rattle.base.specs.Words.{has, distinct, words}
+use Rattle.std.proofs.Common.{ℕ, zero, suc, ◌+◌, ◌≤◌, ◌<◌, Bool, true, false, not, cond, ◌⊎◌, inl, inr, ◌≡◌, refl, sym, Option, Some, IfSome, is_some}
+use Rattle.std.proofs.Common.{List, [], ◌∷◌, ◌++◌, add-one, arith, length, get_or, eqb, eqb-true, eq-eqb, ne_eqb}
+use Rattle.std.proofs.lemmas.List.{length_push}
+use Rattle.base.specs.Words.{has, distinct}
 use Rattle.base.proofs.Bools.{clash, not_true, nots, and_left, and_right}
 use Rattle.base.proofs.Members.{has_cases, has_none, has_get_or, has_left, has_right, has_head, has_either, has_only, distinct_snoc}
-use Rattle.base.proofs.Parts.{words_length, words_snoc}
-use Rattle.slot.specs.Log.{place_in, later, newest_by, newest_in, once_by, once}
-
-pub length_snoc : (xs : List ℕ) (x : ℕ) → length (xs ++ (x ∷ [])) ≡ length xs + 1
-length_snoc xs x = length-append xs (x ∷ [])
+use Rattle.slot.specs.Log.{place_in, found_place, later, newest_by, newest_in, once_by, once}
 
 -- ---- the place that is said
+
+-- what `found_place` tells of a number: by the test of whether it is a place, and by the place
+pub found_place_none : (p : ℕ) (r : Option ℕ) → r ≡ found_place p → is_some r ≡ false → p ≡ 0
+found_place_none zero r e none = refl
+found_place_none (suc k) r e none = clash (rw e) none
+
+pub found_place_any : (p : ℕ) (r : Option ℕ) → r ≡ found_place p → is_some r ≡ true → (k : ℕ) × (p ≡ suc k)
+found_place_any zero r e some = clash some (rw e)
+found_place_any (suc k) r e some = (k, refl)
+
+pub found_place_some : (p k : ℕ) → Some k ≡ found_place p → p ≡ suc k
+found_place_some zero k e = cc
+found_place_some (suc j) k e = cc
+
+pub found_place_below : (n p : ℕ) → p ≤ n → IfSome (found_place p) (λ k. k < n)
+found_place_below n zero h = tt
+found_place_below n (suc k) h = omega arith
 
 -- a place in a list is one where the cell stands
 abbrev pub Stands : ℕ → List ℕ → ℕ → Type 0
@@ -74,23 +80,18 @@ unfolding newest_in
 newest_before c d [] h = rw (ne_eqb c d h)
 newest_before c d (x ∷ xs) h = rw (newest_before c d xs h)
 
--- the same of the words of a slot: of none, and of i, whose newest stands at the place i - 1
-pub newest_of_none : (c at : ℕ) (s : List ℕ) → newest_in c (words at 0 s) ≡ 0
-unfolding newest_in words
-newest_of_none c at s = refl
+-- as a search of a list from its end tells it: the entry at i is the last that is c, or none is
+pub newest_none : (c : ℕ) (xs : List ℕ) → ((k : ℕ) → k < length xs → get_or xs k 0 ≡ c → ⊥) → newest_in c xs ≡ 0
+unfolding newest_in
+newest_none c [] h = refl
+newest_none c (x ∷ xs) h = rw (newest_none c xs (λ k l. h (suc k) (omega arith)), ne_eqb c x (λ e. h 0 (omega arith) (sym e)))
 
-module _ (c at i : ℕ) (s : List ℕ) (some : 0 < i) (long : at + i ≤ length s) where
-  last_word : words at i s ≡ words at (i - 1) s ++ (get_or s (at + i - 1) 0 ∷ [])
-  last_word =
-      let e : i ≡ suc (i - 1) = omega arith in
-      let f : at + i - 1 ≡ at + (i - 1) = omega arith in
-      rw f (ap (λ (k : ℕ). words at k s) e ∙ words_snoc at (i - 1) s (omega arith))
-
-  pub newest_word : c ≡ get_or s (at + i - 1) 0 → newest_in c (words at i s) ≡ i
-  newest_word e = rw (last_word, ← e, newest_here c (words at (i - 1) s), words_length at (i - 1) s (omega arith)) (omega arith)
-
-  pub newest_other : (c ≡ get_or s (at + i - 1) 0 → ⊥) → newest_in c (words at i s) ≡ newest_in c (words at (i - 1) s)
-  newest_other n = ap (newest_in c) last_word ∙ newest_before c _ (words at (i - 1) s) n
+pub newest_at : (c : ℕ) (xs : List ℕ) (i : ℕ) → i < length xs → get_or xs i 0 ≡ c → ((k : ℕ) → i < k → k < length xs → get_or xs k 0 ≡ c → ⊥)
+    → newest_in c xs ≡ suc i
+unfolding newest_in
+newest_at c [] i l e after = absurd (omega arith)
+newest_at c (x ∷ xs) zero l e after = rw (newest_none c xs (λ k m. after (suc k) (omega arith) (omega arith)), eq-eqb c x (sym e))
+newest_at c (x ∷ xs) (suc i) l e after = rw (newest_at c xs i (omega arith) e (λ k m n. after (suc k) (omega arith) (omega arith)))
 
 -- a cell that stands once has one place, from whichever end it is looked for
 pub one_place : (c : ℕ) (xs : List ℕ) → distinct xs ≡ true → newest_in c xs ≡ place_in c xs
@@ -111,16 +112,13 @@ pub once_new : (c : ℕ) (xs : List ℕ) → place_in c xs ≡ 0 → once c xs �
 unfolding once
 once_new c xs e = rw e
 
-pub once_old : (c : ℕ) (xs : List ℕ) → (place_in c xs ≡ 0 → ⊥) → once c xs ≡ xs
+pub once_old : (c : ℕ) (xs : List ℕ) (k : ℕ) → place_in c xs ≡ suc k → once c xs ≡ xs
 unfolding once
-once_old c xs n = go (place_in c xs) n
-  where
-    go : (k : ℕ) → (k ≡ 0 → ⊥) → once_by k c xs ≡ xs
-    go zero m = absurd (m refl)
-    go (suc k) m = refl
+once_old c xs k e = rw e
 
 -- each law of `once` is shown for a new cell and for an old one
-once_by_lem : (c : ℕ) (xs : List ℕ) (P : List ℕ → Type 0) → (place_in c xs ≡ 0 → P (xs ++ (c ∷ []))) → ((k : ℕ) → place_in c xs ≡ suc k → P xs) → P (once c xs)
+once_by_lem : (c : ℕ) (xs : List ℕ) (P : List ℕ → Type 0) → (place_in c xs ≡ 0 → P (xs ++ (c ∷ [])))
+    → ((k : ℕ) → place_in c xs ≡ suc k → P xs) → P (once c xs)
 unfolding once
 once_by_lem c xs P new old = go (place_in c xs) refl
   where
@@ -130,7 +128,7 @@ once_by_lem c xs P new old = go (place_in c xs) refl
 
 module _ (c : ℕ) (xs : List ℕ) where
   pub once_length : length (once c xs) ≤ length xs + 1
-  once_length = once_by_lem c xs (λ ys. length ys ≤ length xs + 1) (λ e. omega (arith, length_snoc xs c)) (λ k e. omega arith)
+  once_length = once_by_lem c xs (λ ys. length ys ≤ length xs + 1) (λ e. omega (arith, length_push xs c)) (λ k e. omega arith)
 
   pub once_has : has c (once c xs) ≡ true
   once_has = once_by_lem c xs (λ ys. has c ys ≡ true) (λ e. has_right c xs (c ∷ []) (has_head c [])) (λ k e. present c xs k e)

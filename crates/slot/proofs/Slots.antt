@@ -1,10 +1,7 @@
 -- The slot that holds a log, word by word, and the log read back from it. Assumes nothing.
-use Prim.Native.Nat.{ℕ, zero, suc, ◌+◌, ◌-◌, ◌≤◌, ◌<◌}
-use mathlib.Core.Path.{◌≡◌, refl, sym, ap, ◌∙◌}
-use mathlib.Core.List.{List, [], ◌∷◌, ◌++◌, append_assoc, append-nil}
-use native.Mathlib.Omega.{arith}
-use lib.ListN.{length, get_or, set, take, replicate, length-append, length-replicate}
-use lib.Seq.{take_at}
+use Rattle.std.proofs.Common.{ℕ, zero, suc, ◌+◌, ◌-◌, ◌≤◌, ◌<◌, ◌≡◌, refl, sym, ap, ◌∙◌, List, [], ◌∷◌, ◌++◌, append_assoc, append-nil, arith, length}
+use Rattle.std.proofs.Common.{get_or, set, take, replicate, length-append, take_at}
+use Rattle.std.proofs.lemmas.List.{length-replicate}
 use Rattle.base.specs.Words.{has, distinct, words}
 use Rattle.base.proofs.Members.{has_none}
 use Rattle.base.proofs.Parts.{words_between, get_d_between}

@@ -1,7 +1,5 @@
 -- No second result: for each public call, two outcomes that meet its contract at the same arguments look the same. Assumes nothing.
-use Prim.Native.Nat.{ℕ}
-use mathlib.Core.List.{List}
-use mathlib.Core.Path.{sym, ◌∙◌}
+use Rattle.std.proofs.Common.{ℕ, List, sym, ◌∙◌}
 use Rattle.base.specs.Unique.{Unique}
 use Rattle.slot.proofs.can_settle.Kinds as can_settle_kinds
 use Rattle.slot.proofs.can_settle.Reads as can_settle

@@ -1,5 +1,6 @@
 -- What a run has read and stored so far, by document 01, "Instructions", and the slot that holds it. Assumes nothing.
-use Rattle.std.specs.Prelude.{ℕ, zero, suc, ◌-◌, ◌≤◌, ◌<◌, ◌≡◌, Bool, true, cond, List, [], ◌∷◌, ◌++◌, length, get_or, set, replicate, eqb}
+use Rattle.std.specs.Prelude.{ℕ, zero, suc, ◌-◌, ◌≤◌, ◌<◌, ◌≡◌, Bool, true, cond, Option, Some, None, List, [], ◌∷◌, ◌++◌, length, get_or, set}
+use Rattle.std.specs.Prelude.{replicate, eqb}
 use Rattle.base.specs.Words.{has, distinct, words}
 use Rattle.slot.specs.declared.ListKind.{ListKind}
 use Rattle.slot.specs.declared.ListKind.TheVariants.{Reads, Stores}
@@ -28,6 +29,11 @@ later (suc k) = suc (suc k)
 unfoldable pub place_in : ℕ → List ℕ → ℕ
 place_in c [] = 0
 place_in c (x ∷ xs) = cond (eqb c x) 1 (later (place_in c xs))
+
+-- the place itself, if c is in the list
+abbrev pub found_place : ℕ → Option ℕ
+found_place zero = None
+found_place (suc k) = Some k
 
 -- c once: at the end, unless it is there
 abbrev pub once_by : ℕ → ℕ → List ℕ → List ℕ
@@ -95,8 +101,8 @@ pub record Holds (s : List ℕ) : Type 0 where
   pub paired : length (log_of s).values ≡ length (log_of s).cells
   pub is : s ≡ layout waiting 0 (log_of s)
 
--- How a run knows what it has stored. Document 02, ask 4: "Look through the program's own stores instead, newest first." 0 where c is not in the list,
--- else 1 + its last place there: the newest entry stands last, and an older one counts only where no newer one is c.
+-- How a run knows what it has stored. Document 02, ask 4: "Look through the program's own stores instead, newest first." 0 where c is not in the
+-- list, else 1 + its last place there: the newest entry stands last, and an older one counts only where no newer one is c.
 abbrev pub newest_by : ℕ → Bool → ℕ
 newest_by zero here = cond here 1 0
 newest_by (suc k) here = suc (suc k)

@@ -1,11 +1,11 @@
 // A program's slot in the work area: where its words lie, its states, and how a run writes its log into it (document 01, "The work area").
 #![tactic(auto)]
 
-ghost use Rattle.std.specs.Prelude.{◌≡◌, ◌+◌, ◌≤◌, length, replicate};
+ghost use Rattle.std.specs.Prelude.{◌≡◌, ◌+◌, ◌<◌, ◌≤◌, length, replicate, IfSome};
 ghost use Rattle.base.specs.Words.{words};
 ghost use Rattle.slot.specs.States.{waiting, can_settle, is_in};
 ghost use Rattle.slot.specs.Layout.{count_word, first_word, list_words};
-ghost use Rattle.slot.specs.Log.{place_in, layout, log_of, with_read, with_store, Holds, newest_in};
+ghost use Rattle.slot.specs.Log.{place_in, found_place, layout, log_of, with_read, with_store, Holds, newest_in};
 
 // Where the words of a slot lie: named here and nowhere else.
 pub const STATE: usize = 0;
@@ -47,6 +47,7 @@ pub const FIRST_END: u32 = REJECTED;
 pub const LAST_STATE: u32 = CARRIED;
 
 // Whether a program in this state is to be settled.
+#[tactic(auto, unfolding(crate::specs::States::can_settle))]
 pub fn can_settle(state: u32) -> bool
     ensures { result ≡ can_settle state }
 {
@@ -61,6 +62,7 @@ pub enum Group {
 }
 
 // Whether a state is one of a group's.
+#[tactic(auto, unfolding(crate::specs::States::is_in, crate::specs::States::is_committed, crate::specs::States::is_carried))]
 pub fn is_in(group: Group, state: u32) -> bool
     ensures { result ≡ is_in group state }
 {
@@ -101,60 +103,52 @@ pub fn first_word(list: ListKind) -> usize
 pub fn clear(words: &mut [u32])
     ensures { words.new ≡ replicate (length words.old) 0 }
 {
-    let mut i = 0;
-    while i < words.len() {
-        words[i] = 0;
-        i += 1;
-    }
+    words.fill(0);
 }
 
-// 0 where x is not among the n words from the word at on, else 1 + its last place there: the newest is looked at first.
-fn newest_place(slot: &[u32], at: usize, n: usize, x: u32) -> usize
+// Where x stands among the n words from the word at on: its last place there, since the newest is looked at first.
+fn newest_place(slot: &[u32], at: usize, n: usize, x: u32) -> Option<usize>
     requires { at + n ≤ length slot.now }
-    ensures { result ≡ newest_in x (words at n slot.now) }
+    ensures { result ≡ found_place (newest_in x (words at n slot.now)) }
 {
-    let mut left = n;
-    while left > 0 {
-        if x == slot[at + left - 1] {
-            return left;
-        }
-        left -= 1;
-    }
-    0
+    slot[at..at + n].iter().rposition(|word| *word == x)
 }
 
-// How a run knows what it has stored: 0 where it has not stored cell c, else 1 + the cell's place among the stored ones.
-pub fn stored_place(slot: &[u32], c: u32) -> usize
+// How a run knows what it has stored: the place of cell c among the stored ones, if it is there.
+#[tactic(auto, using(crate::proofs::Noted::stored_found, crate::proofs::Noted::stored_below))]
+pub fn stored_place(slot: &[u32], c: u32) -> Option<usize>
     requires { Holds slot.now }
-    ensures { (result ≡ place_in c (log_of slot.now).cells) × (result ≤ list_words) }
+    ensures place { result ≡ found_place (place_in c (log_of slot.now).cells) }
+    ensures below { IfSome result (λ k. k < list_words) }
 {
-    let n = slot[STORE_COUNT] as usize;
-    newest_place(slot, STORES, n, c)
+    newest_place(slot, STORES, slot[STORE_COUNT] as usize, c)
 }
 
 // The run stores v to cell c: at its place among the stored cells, or as a new one.
+#[tactic(auto, using(crate::proofs::Noted::store_new, crate::proofs::Noted::store_old))]
 pub fn note_store(slot: &mut [u32], c: u32, v: u32)
     requires { Holds slot.old }
     ensures { slot.new ≡ layout waiting 0 (with_store (log_of slot.old) c v) }
 {
-    let k = stored_place(slot, c);
-    if k == 0 {
-        let n = slot[STORE_COUNT] as usize;
-        slot[STORES + n] = c;
-        slot[VALUES + n] = v;
-        slot[STORE_COUNT] = (n + 1) as u32;
-    } else {
-        slot[VALUES + k - 1] = v;
+    match stored_place(slot, c) {
+        Some(k) => slot[VALUES + k] = v,
+        None => {
+            let n = slot[STORE_COUNT] as usize;
+            slot[STORES + n] = c;
+            slot[VALUES + n] = v;
+            slot[STORE_COUNT] = (n + 1) as u32;
+        }
     }
 }
 
 // The run reads cell c, which it has not stored: the cell is among the reads, once.
+#[tactic(auto, using(crate::proofs::Noted::read_new, crate::proofs::Noted::read_old))]
 pub fn note_read(slot: &mut [u32], c: u32)
     requires { Holds slot.old × (place_in c (log_of slot.old).cells ≡ 0) }
     ensures { slot.new ≡ layout waiting 0 (with_read (log_of slot.old) c) }
 {
     let n = slot[READ_COUNT] as usize;
-    if newest_place(slot, READS, n, c) == 0 {
+    if newest_place(slot, READS, n, c).is_none() {
         slot[READS + n] = c;
         slot[READ_COUNT] = (n + 1) as u32;
     }

@@ -4,13 +4,14 @@ use Prim.Native.Nat.{ℕ}
 use mathlib.Core.Path.{◌≡◌, refl}
 use mathlib.Core.List.{List, [], ◌∷◌, map}
 use lib.ListN.{replicate}
-use Rattle.image.specs.Refusals.{refusing}
+use Rattle.std.specs.Prelude.{Ok}
+use Rattle.image.specs.Refusals.{refusing, passed}
 use Rattle.image.specs.Assembler.{Instruction, set, load, store, reject, program, image}
 use Rattle.image.specs.Bench.{x, y, copy, example_1, example_2}
 use Rattle.guard.specs.Guards.{full_range, full_for}
+use Rattle.machine.specs.declared.FaultKind.TheVariants as fault
 use Rattle.machine.specs.declared.Run.TheVariants.{Finished, Rejected, Faulted}
 use Rattle.area.specs.Sketch.{slot, area}
-use Rattle.steps.specs.declared.Gathered.TheVariants.{Ran}
 use Rattle.steps.specs.Answers.{done_with, numbers_of_gathered}
 use Rattle.steps.specs.Opening.{open_area, OpenSays}
 use Rattle.steps.specs.Gathering.{gather_answer, gather_area, GatherSays}
@@ -39,7 +40,7 @@ unfolding opened
 whole_area = refl
 
 -- what the call's contract says of it
-opening_says : OpenSays (example_2 1) (1 ∷ 2 ∷ 3 ∷ []) (full_range 6) (replicate 306 7) (refusing 0) (zeros 306)
+opening_says : OpenSays (example_2 1) (1 ∷ 2 ∷ 3 ∷ []) (full_range 6) (replicate 306 7) passed (zeros 306)
 unfolding opened
 opening_says = record { answer = refl; area = refl }
 
@@ -119,11 +120,11 @@ only_state_and_detail = refl
 
 -- ---- "When done, gathering and settling return the slot's state and detail"
 
-answers : map (gather_answer failing (5 ∷ 6 ∷ []) (full_range 4) (zeros 404)) (0 ∷ 1 ∷ 2 ∷ 3 ∷ []) ≡ Ran (Rejected 7) ∷ Ran (Faulted 2 4) ∷ Ran (Faulted 1 4) ∷ Ran Finished ∷ []
+answers : map (gather_answer failing (5 ∷ 6 ∷ []) (full_range 4) (zeros 404)) (0 ∷ 1 ∷ 2 ∷ 3 ∷ []) ≡ Ok (Rejected 7) ∷ Ok (Faulted fault.Store 4) ∷ Ok (Faulted fault.Load 4) ∷ Ok Finished ∷ []
 unfolding opened
 answers = refl
 
-numbers : map numbers_of_gathered (Ran (Rejected 7) ∷ Ran (Faulted 2 4) ∷ Ran (Faulted 1 4) ∷ Ran Finished ∷ [])
+numbers : map numbers_of_gathered (Ok (Rejected 7) ∷ Ok (Faulted fault.Store 4) ∷ Ok (Faulted fault.Load 4) ∷ Ok Finished ∷ [])
     ≡ done_with 2 7 ∷ done_with 3 516 ∷ done_with 3 260 ∷ done_with 1 0 ∷ []
 numbers = refl
 
@@ -131,7 +132,7 @@ done_is_0 : done_with 3 516 ≡ record { refusal = refusing 0; state = 3; detail
 done_is_0 = refl
 
 -- what the call's contract says of all this
-gathering_says : GatherSays (image 1 (copy x y ∷ [])) (7 ∷ 5 ∷ []) (full_range 4) (zeros 104) 0 (Ran Finished)
+gathering_says : GatherSays (image 1 (copy x y ∷ [])) (7 ∷ 5 ∷ []) (full_range 4) (zeros 104) 0 (Ok Finished)
     (area (0 ∷ 1 ∷ []) (1 ∷ 0 ∷ []) (slot 1 0 (0 ∷ []) (1 ∷ []) (7 ∷ []) ∷ []))
 unfolding opened
 gathering_says = record { answer = refl; area = refl }

@@ -1,13 +1,14 @@
 -- Each step keeps what the checks 1 to 7 have shown, opening makes it: a whole batch has to check once. Assumes nothing.
 use Prim.Native.Nat.{ℕ, ◌≤◌, ◌<◌}
-use mathlib.Core.Path.{◌≡◌}
+use mathlib.Core.Path.{◌≡◌, refl}
 use mathlib.Core.List.{List}
 use native.Mathlib.Omega.{arith}
-use native.Mathlib.Decide.{ℕ_discrete}
 use lib.ListN.{length}
-use Rattle.image.specs.Refusals.{unless}
+use Rattle.std.specs.Prelude.{Ok, Err}
+use Rattle.image.specs.declared.refusals.Refusal.{Refusal}
+use Rattle.image.specs.Refusals.{passed, unless}
 use Rattle.image.specs.Image.{count_of, part_of}
-use Rattle.image.proofs.Refusing.{unless_refused, unless_done, unless_either}
+use Rattle.image.proofs.Refusing.{Checks, unless_done, unless_either}
 use Rattle.guard.specs.Guards.{admits}
 use Rattle.slot.specs.States.{last_state}
 use Rattle.slot.specs.Log.{Fits}
@@ -17,8 +18,8 @@ use Rattle.area.specs.Checks.{open_refusal, Checked}
 use Rattle.area.proofs.Checks.{Passed, checked_passed}
 use Rattle.area.proofs.Keeps.{state_keeps, checked_area, checked_table, checked_open}
 use Rattle.steps.specs.declared.Settled.{Settled}
-use Rattle.steps.specs.declared.Settled.TheVariants.{Refused, Committed, Carried}
-use Rattle.steps.specs.Answers.{numbers_of_settled}
+use Rattle.steps.specs.declared.Settled.TheVariants.{Committed, Carried}
+use Rattle.steps.specs.Answers.{state_of_settled, detail_of_settled}
 use Rattle.steps.specs.Opening.{cleared, open_area}
 use Rattle.steps.specs.Gathering.{gather_refusal, run_at, gathered_area, gather_area}
 use Rattle.steps.specs.Settling.{settle_refusal, verdict, settled_table, settled_area, settle_table, settle_area}
@@ -50,15 +51,14 @@ module _ (image t g a : List ℕ) (k : ℕ) (c : Checked image t a) (h : k < cou
       (gathered_passed (length t) (run_at image t g k) fits (count_of image) k a c.sized h (checked_passed image t a c))
 
 module _ (image t a : List ℕ) (k : ℕ) (c : Checked image t a) (h : k < count_of image) where
-  settled_few : (v : Settled) → (numbers_of_settled v).state ≤ last_state
-  settled_few (Refused r) = omega arith
+  settled_few : (v : Settled) → state_of_settled v ≤ last_state
   settled_few Committed = omega arith
   settled_few (Carried reason) = omega arith
 
   settled_passed : (v : Settled) → Passed (length t) (count_of image) (settled_area v (length t) k a)
   unfolding settled_area
   settled_passed v =
-      state_keeps (length t) (count_of image) k (numbers_of_settled v).state (numbers_of_settled v).detail a c.sized h (settled_few v)
+      state_keeps (length t) (count_of image) k (state_of_settled v) (detail_of_settled v) a c.sized h (settled_few v)
       (checked_passed image t a c)
 
   pub settled_checked : (v : Settled) → Checked image (settled_table v k a t) (settled_area v (length t) k a)
@@ -69,7 +69,7 @@ module _ (image t a : List ℕ) (k : ℕ) (c : Checked image t a) (h : k < count
 
 -- ---- the calls
 
-pub open_checked : (image t g a : List ℕ) → (open_refusal image t g a).number ≡ 0 → Checked image t (open_area image t g a)
+pub open_checked : (image t g a : List ℕ) → open_refusal image t g a ≡ passed → Checked image t (open_area image t g a)
 unfolding open_area
 open_checked image t g a e = rw (unless_done (open_refusal image t g a) (λ r. a) (cleared a) e) (checked_open image t g a e)
 
@@ -77,25 +77,15 @@ module _ (image t g a : List ℕ) (k : ℕ) where
   pub gather_checked : Checked image t a → Checked image t (gather_area image t g a k)
   unfolding gather_area
   gather_checked c =
-      unless_either (λ b. Checked image t b) (gather_refusal image t g a k) (λ r. a) (gathered_area image t g k a) c
+      unless_either (λ b. Checked image t b) (gather_refusal image t g a k) (λ r. a) (gathered_area image t g k a) (λ f h. c)
       (λ e. gathered_checked image t g a k c (gather_shows image t g a k e).1)
 
   pub settle_checked : Checked image t a → Checked image (settle_table image t g a k) (settle_area image t g a k)
-  unfolding settle_table settle_area
-  settle_checked c = go (ℕ_discrete (settle_refusal image t g a k).number 0)
+  unfolding settle_table settle_area unless
+  settle_checked c = go (settle_refusal image t g a k) refl
     where
-      go : Dec ((settle_refusal image t g a k).number ≡ 0)
-          → Checked image (unless (settle_refusal image t g a k) (λ r. t) (settled_table (verdict image (length t) k a) k a t))
-          (unless (settle_refusal image t g a k) (λ r. a) (settled_area (verdict image (length t) k a) (length t) k a))
-      go (yes e) =
-          rw (
-            unless_done (settle_refusal image t g a k) (λ r. t) (settled_table (verdict image (length t) k a) k a t) e,
-            unless_done (settle_refusal image t g a k) (λ r. a) (settled_area (verdict image (length t) k a) (length t) k a) e,
-          )
-          (settled_checked image t a k c (settle_shows image t g a k e).1 (verdict image (length t) k a))
-      go (no h) =
-          rw (
-            unless_refused (settle_refusal image t g a k) (λ r. t) (settled_table (verdict image (length t) k a) k a t) h,
-            unless_refused (settle_refusal image t g a k) (λ r. a) (settled_area (verdict image (length t) k a) (length t) k a) h,
-          )
-          c
+      go : (r : Checks Refusal) → settle_refusal image t g a k ≡ r
+          → Checked image (unless r (λ f. t) (settled_table (verdict image (length t) k a) k a t))
+          (unless r (λ f. a) (settled_area (verdict image (length t) k a) (length t) k a))
+      go (Ok done) e = settled_checked image t a k c (settle_shows image t g a k e).1 (verdict image (length t) k a)
+      go (Err f) e = c

@@ -4,15 +4,18 @@ use Prim.Native.Nat.{ℕ}
 use mathlib.Core.Path.{◌≡◌, refl}
 use mathlib.Core.List.{List, [], ◌∷◌, ◌++◌, map}
 use lib.ListN.{take, replicate}
-use Rattle.image.specs.declared.Refusal.{Refusal}
-use Rattle.image.specs.Refusals.{refusing_at, refusing}
+use Rattle.std.specs.Prelude.{Err}
+use Rattle.image.specs.declared.refusals.Fault.TheVariants.{Operation}
+use Rattle.image.specs.declared.refusals.ImageRefusal.TheVariants.{Size, Header, Offsets, Instruction}
+use Rattle.image.specs.declared.refusals.Refusal.{Refusal}
+use Rattle.image.specs.declared.refusals.Refusal.TheVariants.{Image, TableSize, Guards, AreaSize, Area, Number, State}
+use Rattle.image.specs.declared.refusals.RefusalNumbers.{RefusalNumbers}
+use Rattle.image.specs.Refusals.{refusing_at, refusing, told}
 use Rattle.image.specs.Assembler.{instruction, end, program, image}
 use Rattle.guard.specs.Guards.{full_for}
 use Rattle.area.specs.Checks.{open_refusal}
 use Rattle.area.specs.Sketch.{slot, area}
-use Rattle.steps.specs.declared.Gathered.TheVariants as gathering
-use Rattle.steps.specs.declared.Settled.TheVariants as settling
-use Rattle.steps.specs.Answers.{Numbers, refused_by, numbers_of_gathered, numbers_of_settled}
+use Rattle.steps.specs.Answers.{Numbers, numbers_of_gathered, numbers_of_settled}
 use Rattle.steps.specs.Opening.{open_area, OpenSays}
 use Rattle.steps.specs.Gathering.{gather_answer, gather_area, GatherSays}
 use Rattle.steps.specs.Settling.{settle_answer, settle_table, settle_area, SettleSays}
@@ -60,23 +63,32 @@ broken f =
     ∷ []
 
 -- 1 to 3, then 41 with its place, instruction 2 of program 1, then these
-abbrev refusals : List ℕ → List Refusal
+abbrev refusals : List ℕ → List RefusalNumbers
 refusals rest = map refusing (1 ∷ 2 ∷ 3 ∷ []) ++ (refusing_at 41 1 2 ∷ map refusing rest)
 
+-- the same by name, of the calls that look at all of them
+abbrev named : List Refusal
+named =
+    map Image (Size ∷ Header ∷ Offsets ∷ Instruction (record { fault = Operation; program = 1; instruction = 2 }) ∷ [])
+    ++ (TableSize ∷ Guards ∷ AreaSize ∷ Area ∷ Number ∷ State ∷ [])
+
 -- the last three are nothing to opening, which knows neither marks, nor numbers, nor states
-opening : broken (λ i t g a k. open_refusal i t g a) ≡ refusals (5 ∷ 14 ∷ 6 ∷ 0 ∷ 0 ∷ 0 ∷ [])
+opening : broken (λ i t g a k. told (open_refusal i t g a)) ≡ refusals (5 ∷ 14 ∷ 6 ∷ 0 ∷ 0 ∷ 0 ∷ [])
 unfolding opened
 opening = refl
 
-gathering_answers : broken gather_answer ≡ map gathering.Refused (refusals (5 ∷ 14 ∷ 6 ∷ 7 ∷ 8 ∷ 9 ∷ []))
+gathering_answers : broken gather_answer ≡ map Err named
 unfolding opened
 gathering_answers = refl
 
-settling_answers : broken settle_answer ≡ map settling.Refused (refusals (5 ∷ 14 ∷ 6 ∷ 7 ∷ 8 ∷ 9 ∷ []))
+settling_answers : broken settle_answer ≡ map Err named
 unfolding opened
 settling_answers = refl
 
 -- ---- "A refusal returns its number, 0 for every other result, and changes no lent memory."
+
+abbrev refused_by : RefusalNumbers → Numbers
+refused_by r = record { refusal = r; state = 0; detail = 0 }
 
 numbers_of_refusals : (broken (λ i t g a k. numbers_of_gathered (gather_answer i t g a k)) ≡ map refused_by (refusals (5 ∷ 14 ∷ 6 ∷ 7 ∷ 8 ∷ 9 ∷ [])))
     × (broken (λ i t g a k. numbers_of_settled (settle_answer i t g a k)) ≡ map refused_by (refusals (5 ∷ 14 ∷ 6 ∷ 7 ∷ 8 ∷ 9 ∷ [])))
@@ -91,9 +103,9 @@ unfolding opened
 nothing_changed = (refl, refl, refl, refl)
 
 -- what the calls' contracts say of a refusal
-refused_says : OpenSays two [] [] (7 ∷ 7 ∷ []) (refusing 5) (7 ∷ 7 ∷ [])
-    × GatherSays two (5 ∷ []) [] (7 ∷ 7 ∷ []) 0 (gathering.Refused (refusing 14)) (7 ∷ 7 ∷ [])
-    × SettleSays two (5 ∷ []) (0 ∷ 0 ∷ []) (7 ∷ 7 ∷ []) 0 (settling.Refused (refusing 6)) (5 ∷ []) (7 ∷ 7 ∷ [])
+refused_says : OpenSays two [] [] (7 ∷ 7 ∷ []) (Err TableSize) (7 ∷ 7 ∷ [])
+    × GatherSays two (5 ∷ []) [] (7 ∷ 7 ∷ []) 0 (Err Guards) (7 ∷ 7 ∷ [])
+    × SettleSays two (5 ∷ []) (0 ∷ 0 ∷ []) (7 ∷ 7 ∷ []) 0 (Err AreaSize) (5 ∷ []) (7 ∷ 7 ∷ [])
 unfolding opened
 refused_says = (record { answer = refl; area = refl }, record { answer = refl; area = refl }, record { answer = refl; table = refl; area = refl })
 

@@ -4,6 +4,8 @@ use Prim.Native.Nat.{ℕ}
 use mathlib.Core.Path.{◌≡◌, refl}
 use mathlib.Core.List.{List, [], ◌∷◌, map}
 use lib.ListN.{replicate}
+use Rattle.std.specs.Prelude.{Result, Ok}
+use Rattle.image.specs.declared.refusals.Refusal.{Refusal}
 use Rattle.image.specs.Assembler.{image}
 use Rattle.image.specs.Bench.{example_1}
 use Rattle.area.specs.Sketch.{slot, area}
@@ -22,7 +24,7 @@ closed [] = []
 closed (x ∷ t) = 1 ∷ 0 ∷ closed t
 
 -- what settling answers, and the table and the area that it leaves
-abbrev answer : (i t a : List ℕ) → ℕ → Settled
+abbrev answer : (i t a : List ℕ) → ℕ → Result Settled Refusal
 answer i t a k = settle_answer i t (closed t) a k
 
 abbrev table : (i t a : List ℕ) → ℕ → List ℕ
@@ -64,33 +66,33 @@ each f rule =
 -- Byte 0 "means Rule 1".
 rule_1 : map (each answer) (0 ∷ 1 ∷ [])
     ≡ replicate 2
-    (Committed ∷ Carried Waw ∷ Carried Raw ∷ Committed ∷ Carried Waw ∷ Carried Waw ∷ Carried Raw ∷ Carried Waw ∷ [])
+    (map Ok (Committed ∷ Carried Waw ∷ Carried Raw ∷ Committed ∷ Carried Waw ∷ Carried Waw ∷ Carried Raw ∷ Carried Waw ∷ []))
 unfolding opened
 rule_1 = refl
 
 rule_2 : each answer 2
-    ≡ Committed ∷ Carried Waw ∷ Committed ∷ Committed ∷ Carried Waw ∷ Carried Waw ∷ Carried RawWithWar ∷ Carried Waw ∷ []
+    ≡ map Ok (Committed ∷ Carried Waw ∷ Committed ∷ Committed ∷ Carried Waw ∷ Carried Waw ∷ Carried RawWithWar ∷ Carried Waw ∷ [])
 unfolding opened
 rule_2 = refl
 
 -- "When done, gathering and settling return the slot's state and detail"
-numbers : map numbers_of_settled (Committed ∷ Carried Waw ∷ Carried Raw ∷ Carried RawWithWar ∷ [])
+numbers : map numbers_of_settled (map Ok (Committed ∷ Carried Waw ∷ Carried Raw ∷ Carried RawWithWar ∷ []))
     ≡ done_with 4 0 ∷ done_with 5 1 ∷ done_with 5 2 ∷ done_with 5 3 ∷ []
 numbers = refl
 
 -- program k of three that read and store the one cell, whose marks are this, under rule bytes 0, 1, 2
-abbrev own : ℕ → ℕ → List Settled
+abbrev own : ℕ → ℕ → List (Result Settled Refusal)
 own mark k =
     map (λ rule. answer (image rule ([] ∷ [] ∷ [] ∷ [])) (8 ∷ [])
     (area (mark ∷ []) (mark ∷ []) (replicate 3 (slot 1 0 (0 ∷ []) (0 ∷ []) (60 ∷ [])))) k) (0 ∷ 1 ∷ 2 ∷ [])
 
 -- neither its own marks nor a later program's are against program 1: its own read is no WAR
-own_and_later : own 2 1 ∷ own 3 1 ∷ own 1 1 ∷ [] ≡ replicate 3 Committed ∷ replicate 3 Committed ∷ replicate 3 (Carried Waw) ∷ []
+own_and_later : own 2 1 ∷ own 3 1 ∷ own 1 1 ∷ [] ≡ replicate 3 (Ok Committed) ∷ replicate 3 (Ok Committed) ∷ replicate 3 (Ok (Carried Waw)) ∷ []
 unfolding opened
 own_and_later = refl
 
 -- "Number 0 is never carried."
-number_0 : map (λ mark. own mark 0) (0 ∷ 1 ∷ 2 ∷ 3 ∷ []) ≡ replicate 4 (replicate 3 Committed)
+number_0 : map (λ mark. own mark 0) (0 ∷ 1 ∷ 2 ∷ 3 ∷ []) ≡ replicate 4 (replicate 3 (Ok Committed))
 unfolding opened
 number_0 = refl
 
@@ -125,11 +127,11 @@ in_slot_order = refl
 -- "Settling decides one gathered program": Example 1 under Rule 2, whose programs 0 and 1 commit and whose program 2 is carried for 1. Each is settled
 -- first of all: the others stay gathered, and the table takes this one's stores alone.
 abbrev example_1_in : ℕ → ℕ → ℕ → ℕ → List ℕ
-example_1_in state-0 state-1 state-2 detail-2 =
+example_1_in state_0 state_1 state_2 detail_2 =
     area (1 ∷ 2 ∷ []) (1 ∷ 2 ∷ []) (
-    slot state-0 0 (0 ∷ []) (0 ∷ []) (10 ∷ [])
-    ∷ slot state-1 0 (0 ∷ 1 ∷ []) (1 ∷ []) (5 ∷ [])
-    ∷ slot state-2 detail-2 (0 ∷ 1 ∷ []) (0 ∷ []) (13 ∷ [])
+    slot state_0 0 (0 ∷ []) (0 ∷ []) (10 ∷ [])
+    ∷ slot state_1 0 (0 ∷ 1 ∷ []) (1 ∷ []) (5 ∷ [])
+    ∷ slot state_2 detail_2 (0 ∷ 1 ∷ []) (0 ∷ []) (13 ∷ [])
     ∷ []
     )
 
@@ -145,6 +147,6 @@ unfolding opened
 one_program_last = (refl, refl)
 
 -- what the call's contract says of all this
-settling_says : SettleSays (example_1 2) (9 ∷ 4 ∷ []) (closed (9 ∷ 4 ∷ [])) (example_1_in 1 1 1 0) 1 Committed (9 ∷ 5 ∷ []) (example_1_in 1 4 1 0)
+settling_says : SettleSays (example_1 2) (9 ∷ 4 ∷ []) (closed (9 ∷ 4 ∷ [])) (example_1_in 1 1 1 0) 1 (Ok Committed) (9 ∷ 5 ∷ []) (example_1_in 1 4 1 0)
 unfolding opened
 settling_says = record { answer = refl; table = refl; area = refl }

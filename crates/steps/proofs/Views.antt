@@ -19,8 +19,8 @@ use Rattle.area.proofs.Changes.{reserve_length, reserve_own, reserve_read_marks,
 use Rattle.area.proofs.Checks.{Passed, count_few}
 use Rattle.area.proofs.Keeps.{slot_keeps, reserve_keeps}
 use Rattle.steps.specs.declared.Settled.{Settled}
-use Rattle.steps.specs.declared.Settled.TheVariants.{Refused, Committed, Carried}
-use Rattle.steps.specs.Answers.{numbers_of_settled}
+use Rattle.steps.specs.declared.Settled.TheVariants.{Committed, Carried}
+use Rattle.steps.specs.Answers.{state_of_settled, detail_of_settled}
 use Rattle.steps.specs.Gathering.{reserved, gathered_by}
 use Rattle.steps.specs.Settling.{settled_table, settled_area}
 use Rattle.steps.proofs.Slots.{slot_passes}
@@ -106,20 +106,20 @@ module _ (T : ℕ) (o : Outcome) (fits : Fits T (kept_by o)) (n k : ℕ) (a : Li
 module _ (v : Settled) (T k : ℕ) (a : List ℕ) where
   pub settled_length : length (settled_area v T k a) ≡ length a
   unfolding settled_area
-  settled_length = state_length T k (numbers_of_settled v).state (numbers_of_settled v).detail a
+  settled_length = state_length T k (state_of_settled v) (detail_of_settled v) a
 
   pub settled_marks : (m : MarkKind) → words (marks_at m T) T (settled_area v T k a) ≡ words (marks_at m T) T a
   unfolding settled_area
-  settled_marks m = state_marks T k (numbers_of_settled v).state (numbers_of_settled v).detail a m
+  settled_marks m = state_marks T k (state_of_settled v) (detail_of_settled v) a m
 
   pub settled_own : slot_at T k (settled_area v T k a)
-      ≡ set (set (slot_at T k a) state_word (numbers_of_settled v).state) detail_word (numbers_of_settled v).detail
+      ≡ set (set (slot_at T k a) state_word (state_of_settled v)) detail_word (detail_of_settled v)
   unfolding settled_area
-  settled_own = state_own T k (numbers_of_settled v).state (numbers_of_settled v).detail a
+  settled_own = state_own T k (state_of_settled v) (detail_of_settled v) a
 
   pub settled_other : (j : ℕ) → (j ≡ k → ⊥) → slot_at T j (settled_area v T k a) ≡ slot_at T j a
   unfolding settled_area
-  settled_other j q = state_other T k (numbers_of_settled v).state (numbers_of_settled v).detail a j q
+  settled_other j q = state_other T k (state_of_settled v) (detail_of_settled v) a j q
 
 store_length : (cs vs t : List ℕ) → length (store_all cs vs t) ≡ length t
 unfolding store_all
@@ -129,6 +129,5 @@ store_length (c ∷ cs) (v ∷ vs) t = store_length cs vs (set t c v) ∙ length
 
 pub table_length : (v : Settled) (k : ℕ) (a t : List ℕ) → length (settled_table v k a t) ≡ length t
 unfolding settled_table
-table_length (Refused r) k a t = refl
 table_length Committed k a t = store_length (stores_of (length t) k a) (values_of (length t) k a) t
 table_length (Carried reason) k a t = refl

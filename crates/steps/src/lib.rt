@@ -36,12 +36,8 @@ pub enum Verdict {
 }
 
 // Opening sets the whole area to 0.
-pub fn open(
-    image: &[u8],
-    table: &[u32],
-    guards: &[u32],
-    area: &mut [u32],
-) -> Result<(), Refusal>
+#[tactic(auto, using(crate::proofs::Refusals::done_by_check), unfolding(crate::specs::Opening::open_area))]
+pub fn open(image: &[u8], table: &[u32], guards: &[u32], area: &mut [u32]) -> Result<(), Refusal>
     ensures { OpenSays image.now table.now guards.now area.old result area.new }
 {
     area::open_refusal(image::image_refusal(image), image, table, guards, area)?;
@@ -50,6 +46,7 @@ pub fn open(
 }
 
 // Checks 1 to 8, with 14 in its place, which every step begins with.
+#[tactic(auto, using(crate::proofs::Refusals::step_by_check), unfolding(crate::specs::Gathering::step_refusal))]
 pub fn step_refusal(
     image: &[u8],
     table: &[u32],
@@ -67,6 +64,7 @@ pub fn step_refusal(
 }
 
 // Checks 1 to 9 of gathering.
+#[tactic(auto, using(crate::proofs::Refusals::step_by_check), unfolding(crate::specs::Gathering::gather_refusal, crate::specs::Gathering::waits))]
 fn gather_refusal(
     image: &[u8],
     table: &[u32],
@@ -84,6 +82,7 @@ fn gather_refusal(
 }
 
 // The program's run, from its part of the image into its slot.
+#[tactic(auto, using(machine::proofs::Laws::part_runnable))]
 fn run_into(
     image: &[u8],
     table: &[u32],
@@ -101,6 +100,7 @@ fn run_into(
 }
 
 // Gathering, where the checks have been made.
+#[tactic(auto, using(crate::proofs::Says::after_run, crate::proofs::Says::after_stores, crate::proofs::Says::after_reads))]
 pub fn gather_checked(
     image: &[u8],
     table: &[u32],
@@ -131,6 +131,7 @@ pub fn gather_checked(
 }
 
 // Gathering runs one waiting program on the table with its guards, rewrites its slot and makes all its reservations.
+#[tactic(auto, using(crate::proofs::Refusals::done_by_check), unfolding(crate::specs::Gathering::gather_answer, crate::specs::Gathering::gather_area))]
 pub fn gather(
     image: &[u8],
     table: &[u32],
@@ -145,6 +146,7 @@ pub fn gather(
 }
 
 // Check 9 of settling: whether no program of n waits, and this one is to be settled.
+#[tactic(auto, unfolding(crate::specs::Settling::is_ready))]
 fn is_ready(area: &[u32], cells: usize, n: usize, number: usize) -> bool
     requires { Measured cells n area.now × (number < n) }
     ensures { result ≡ is_ready cells n number area.now }
@@ -156,6 +158,7 @@ fn is_ready(area: &[u32], cells: usize, n: usize, number: usize) -> bool
 }
 
 // Checks 1 to 9 of settling.
+#[tactic(auto, using(crate::proofs::Refusals::step_by_check), unfolding(crate::specs::Settling::settle_refusal))]
 fn settle_refusal(
     image: &[u8],
     table: &[u32],
@@ -173,6 +176,7 @@ fn settle_refusal(
 }
 
 // The decision on a program, by the marks and the rule: WAW is looked at first, and WAR only where Rule 2 has found RAW.
+#[tactic(auto, using(crate::proofs::Says::deciding))]
 pub fn judge(image: &[u8], area: &[u32], cells: usize, number: usize) -> Verdict
     requires { Slotted cells number area.now }
     ensures { result ≡ with_cells (verdict image.now cells number area.now) cells number area.now }
@@ -239,6 +243,7 @@ pub fn detail_of(settled: Settled) -> u32
 }
 
 // The table takes the stores of a program that is committed.
+#[tactic(auto, unfolding(crate::specs::Settling::settled_table))]
 fn store_committed(settled: Settled, table: &mut [u32], area: &[u32], number: usize)
     requires { Slotted (length table.old) number area.now }
     ensures { table.new ≡ settled_table settled number area.now table.old }
@@ -250,6 +255,7 @@ fn store_committed(settled: Settled, table: &mut [u32], area: &[u32], number: us
 }
 
 // Settling, where the checks have been made.
+#[tactic(auto, using(crate::proofs::Says::cells_dropped), unfolding(crate::specs::Settling::settled_area))]
 pub fn settle_checked(image: &[u8], table: &mut [u32], area: &mut [u32], number: usize) -> Settled
     requires { Checked image.now table.old area.old × (number < count_of image.now) }
     ensures { Settles image.now table.old area.old number result table.new area.new }
@@ -262,6 +268,7 @@ pub fn settle_checked(image: &[u8], table: &mut [u32], area: &mut [u32], number:
 }
 
 // Settling decides one gathered program; a committed one's stores go into the table.
+#[tactic(auto, using(crate::proofs::Refusals::done_by_check), unfolding(crate::specs::Settling::settle_answer, crate::specs::Settling::settle_table, crate::specs::Settling::settle_area))]
 pub fn settle(
     image: &[u8],
     table: &mut [u32],

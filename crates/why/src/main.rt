@@ -2,16 +2,17 @@
 // once.
 #![tactic(auto)]
 
+use programs::NoPage;
+use report::Guards;
+
 fn main(rt: HostRuntime) {
-    let mut bytes = [0u8; input::LONGEST];
-    let n = input::read_input(&rt, b"why", &mut bytes);
-    let mut page = reasons::page_room();
-    let end = report::reasons_page(report::Guards::FullRange, &bytes[..n], &mut page);
-    if end == 0 {
-        output::complain(b"why", b"the batch has no programs");
-    }
-    output::print(b"why", &page[0..end]);
-    let mut words = refused::where_room();
-    let said = report::said(report::Guards::FullRange, &bytes[..n], &mut words);
-    output::say(&words[0..said]);
+    programs::run::<{ input::LONGEST }, { reasons::PAGE }, { refused::WHERE_BYTES }, _, _>(
+        &rt,
+        b"why",
+        |input, page| match report::reasons_page(Guards::FullRange, input, page) {
+            0 => Err(NoPage::NoPrograms),
+            end => Ok(end),
+        },
+        |input, words| report::said(Guards::FullRange, input, words),
+    );
 }

@@ -1,22 +1,18 @@
--- The loop's invariant: each word passed is below the bound. Assumes nothing.
-use mathlib.Core.Path.{◌≡◌, sym}
-use native.Mathlib.Omega.{arith}
-use borrow.Author.Rules.{rules}
-use borrow.Author.Tests.{le-ltb, lt-ltb}
-use Rattle.base.proofs.Numbers.{every_none, every_more, every_false}
+-- Each of the words that are lent is one of those that the definition counts. Assumes nothing.
+use mathlib.Core.Path.{◌∙◌}
+use lib.Dec.{ltb}
+use Rattle.std.proofs.Common.{rules, tests}
+use Rattle.std.proofs.lemmas.Iterator.{YieldsList-from_slice}
+use Rattle.std.proofs.lemmas.Iterator.Search.{all_from_yields_List}
+use Rattle.base.specs.Words.{words}
 use Rattle.area.specs.Checks.{all_below}
+use Rattle.area.proofs.Loops.{lent_words, all_lent}
 use Rattle.area.proofs.all_below.Goals as goal
-
-pub loop-i-init : goal.loop-i-init
-loop-i-init c = (search rules, every_none _)
-
-pub returns-then-bound-area : goal.returns-then-bound-area
-unfolding all_below
-returns-then-bound-area c = sym (every_false _ _ c.loop-i.i (omega arith) (le-ltb _ _ c.if-bound-area.true))
-
-pub loop-i-preserved : goal.loop-i-preserved
-loop-i-preserved c = (search rules, every_more _ _ c.loop-i.invariant.1 (lt-ltb _ _ c.if-bound-area.false))
 
 pub returns : goal.returns
 unfolding all_below
-returns c = let e : c.loop-i.i ≡ c.args.count = omega arith in sym (rw e at c.loop-i.invariant.1)
+returns c =
+    let a = c.args in
+    let lent = YieldsList-from_slice (words a.at a.count a.area.now) (c.iter.ensures.rest ∙ lent_words a.at a.count a.area.now) in
+    all_from_yields_List (λ w. ltb w a.bound) _ _ _ c.all.ensures.ran lent (λ x b q k. search (rules, tests))
+    ∙ all_lent a.at a.count a.area.now c.requires (λ w. ltb w a.bound)

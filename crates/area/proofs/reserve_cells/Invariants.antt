@@ -1,11 +1,12 @@
--- The loop's invariant: reserving the cells that are left, in the area as it is, gives the whole, and the list stays as it was. The measure is how
--- many cells are left. Assumes nothing.
-use Prim.Native.Nat.{◌-◌}
-use Rattle.area.proofs.Loops.{Reserving}
+-- The loop's invariant: the cells passed are reserved, and the list stays as it was. Assumes nothing.
+use mathlib.Core.Path.{◌≡◌}
+use Prim.Native.Nat.{ℕ, ◌+◌}
+use lib.ListN.{get_or}
+use Rattle.base.specs.Words.{words}
+use Rattle.area.specs.Marks.{reserve}
 use Rattle.area.proofs.reserve_cells.Given as goal
 
 abbrev pub invariant-loop-i : goal.invariant-loop-i
-invariant-loop-i l = Reserving l.marks l.at l.count l.number l.initial.area l.i l.area
-
-abbrev pub decreases-loop-i : goal.decreases-loop-i
-decreases-loop-i l = l.count - l.i
+invariant-loop-i l =
+    (l.area ≡ reserve l.marks (words l.at l.i l.initial.area) l.number l.initial.area)
+    × ((j : ℕ) → get_or l.area (l.at + j) 0 ≡ get_or l.initial.area (l.at + j) 0)

@@ -1,31 +1,30 @@
--- The loop's invariant: the stores that are left, done on the table as it is, give the whole. Assumes nothing.
-use mathlib.Core.Path.{refl}
+-- The loop's invariant: the stores passed are done. Assumes nothing.
 use native.Mathlib.Omega.{arith}
-use lib.ListN.{length-set}
-use Rattle.base.proofs.Walks.{words_start}
-use Rattle.area.proofs.Loops.{storing_next, storing_end}
+use Rattle.std.proofs.lemmas.Grind.{common_steps}
+use Rattle.std.proofs.lemmas.Slice.Zip.{zip_turn}
+use Rattle.base.specs.Words.{words}
+use Rattle.base.proofs.Parts.{words_length, words_at}
+use Rattle.area.proofs.Loops.{lent_words, store_more}
 use Rattle.area.proofs.store_all.Goals as goal
 
-pub loop-i-init : goal.loop-i-init
-loop-i-init c =
+pub bounds-table-cell : goal.bounds-table-cell
+bounds-table-cell c =
     let a = c.args in
-    (omega arith, refl, rw (words_start a.area.now a.cells a.count, words_start a.area.now a.values a.count))
+    let cells = lent_words a.cells a.count a.area.now in
+    let values = lent_words a.values a.count a.area.now in
+    let l = c.loop-cell in
+    let stored = words a.cells a.count a.area.now in
+    let turn = zip_turn stored (words a.values a.count a.area.now) l.yielded _ _ c.next.new.self _ (cc cells) (cc values) l.yielded_by _ c.in-Some.is
+    c.next.ensures.steps in
+    grind (arith, words_length, words_at, turn.0, turn.2 0, c.requires.in_table)
 
-pub offset_bounds-table-c : goal.offset_bounds-table-c
-offset_bounds-table-c c = omega (arith, c.requires.in_table c.loop-i.i c.loop-i-test.true)
-
-pub bounds-table-c : goal.bounds-table-c
-bounds-table-c c = omega (arith, c.requires.in_table c.loop-i.i c.loop-i-test.true)
-
-pub loop-i-preserved : goal.loop-i-preserved
-loop-i-preserved c =
-    let l = c.loop-i in (
-      omega arith,
-      simp length-set l.invariant.1,
-      storing_next _ _ _ _ _ c.requires l.i l.table l.invariant.2 c.loop-i-test.true,
-    )
-
-pub returns : goal.returns
-returns c =
-    let l = c.loop-i in
-    storing_end _ _ _ _ _ c.requires l.i l.table l.invariant.2 c.loop-i-test.false
+pub loop-cell-preserved : goal.loop-cell-preserved
+loop-cell-preserved c =
+    let a = c.args in
+    let cells = lent_words a.cells a.count a.area.now in
+    let values = lent_words a.values a.count a.area.now in
+    let l = c.loop-cell in
+    let stored = words a.cells a.count a.area.now in
+    let turn = zip_turn stored (words a.values a.count a.area.now) l.yielded _ _ c.next.new.self _ (cc cells) (cc values) l.yielded_by _ c.in-Some.is
+    c.next.ensures.steps in
+    grind (arith, common_steps, words_length, words_at, store_more, turn.0, turn.2 0, turn.3 0)

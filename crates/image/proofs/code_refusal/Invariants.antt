@@ -6,14 +6,14 @@ use Prim.Native.Nat.{◌≤◌, ◌-◌}
 use Rattle.base.specs.Words.{every}
 use Rattle.image.specs.Instruction.{place_good, program_good}
 use Rattle.image.specs.Image.{part_of}
-use Rattle.image.specs.Refusals.{none}
+use Rattle.image.specs.Refusals.{passed}
 use Rattle.image.proofs.code_refusal.Given as goal
 
 abbrev pub invariant-loop-i : goal.invariant-loop-i
-invariant-loop-i l = (l.i ≤ l.m) × (l.found ≡ none) × (every l.i (λ k. place_good l.part k) ≡ true)
+invariant-loop-i l = (l.i ≤ l.m) × (l.found ≡ passed) × (every l.i (λ k. place_good l.part k) ≡ true)
 
 abbrev pub invariant-programs : goal.invariant-programs
-invariant-programs l = (l.p ≤ l.n) × (l.found ≡ none) × (every l.p (λ q. program_good (part_of l.bytes q)) ≡ true)
+invariant-programs l = (l.p ≤ l.n) × (l.found ≡ passed) × (every l.p (λ q. program_good (part_of l.bytes q)) ≡ true)
 
 abbrev pub decreases-programs : goal.decreases-programs
 decreases-programs l = l.n - l.p

@@ -1,25 +1,14 @@
--- The loop's invariant: the newest of all n words is the newest of those that are left. Assumes nothing.
-use mathlib.Core.Path.{◌≡◌, sym, ◌∙◌}
-use native.Mathlib.Omega.{arith}
-use borrow.Author.Rules.{rules}
-use Rattle.slot.proofs.Places.{newest_of_none, newest_word, newest_other}
+-- The search goes from the end of the words. Assumes nothing.
+use Rattle.std.proofs.Common.{◌≡◌, ℕ, Option, Some, None, refl, sym, ap, rules}
+use Rattle.base.specs.Words.{words}
+use Rattle.slot.specs.Log.{found_place, newest_in}
+use Rattle.slot.proofs.Places.{newest_at, newest_none}
 use Rattle.slot.proofs.newest_place.Goals as goal
 
-pub returns-then-x-slot : goal.returns-then-x-slot
-returns-then-x-slot c =
-    let a = c.args in
-    let l = c.loop-left in
-    sym (l.invariant.1 ∙ newest_word a.x a.at l.left a.slot.now (omega arith) (omega arith) c.if-x-slot.true)
-
-pub loop-left-preserved : goal.loop-left-preserved
-loop-left-preserved c =
-    let a = c.args in
-    let l = c.loop-left in
-    (search rules, l.invariant.1 ∙ newest_other a.x a.at l.left a.slot.now (omega arith) (omega arith) c.if-x-slot.false)
-
 pub returns : goal.returns
-returns c =
-    let a = c.args in
-    let l = c.loop-left in
-    let end : l.left ≡ 0 = omega arith in
-    sym (l.invariant.1 ∙ rw end (newest_of_none a.x a.at a.slot.now))
+unfolding words
+returns c = go c.rposition.result refl
+  where
+    go : (r : Option ℕ) → c.rposition.result ≡ r → r ≡ found_place (newest_in c.args.x (words c.args.at c.args.n c.args.slot.now))
+    go (Some i) e = ap found_place (sym (newest_at c.args.x _ i (search rules) (search rules) (search rules)))
+    go None e = ap found_place (sym (newest_none c.args.x _ (search rules)))

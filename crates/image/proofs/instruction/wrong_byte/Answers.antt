@@ -1,9 +1,0 @@
--- `wrong_byte` meets its contract: the four bytes lie inside the program, and the definition reads the same four. Assumes nothing.
-use native.Mathlib.Nat.{add-zero}
-use Rattle.image.specs.Instruction.{fault_at, wrong_byte}
-use Rattle.image.proofs.Refusing.{number_of}
-use Rattle.image.proofs.instruction.wrong_byte.Goals as goal
-
-pub returns : goal.returns
-unfolding fault_at wrong_byte
-returns c = let e = number_of c.fault.ensures in simp add-zero (rw e at c.wrong_of.ensures)
