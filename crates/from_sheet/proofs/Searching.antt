@@ -42,9 +42,6 @@ pub record Search (all : List Line) (p : ℕ) (ls : List Line) (behind left : �
   pub program_is : get_or (leading ls ∷ programs ls) left [] ≡ get_or (programs all) p []
   pub some : left ≤ length (programs ls)
 
-pub search_start : (all : List Line) (p : ℕ) → p < length (programs all) → Search all p all 0 (p + 1)
-search_start all p l = record { line_is = omega arith; program_is = rw (add-one p); some = omega arith }
-
 -- a line more
 search_next : {all : List Line} {p : ℕ} (l : Line) (ls : List Line) {behind : ℕ} (left : ℕ) → 0 < left → Search all p (l ∷ ls) behind left
     → Search all p ls (behind + 1) (left_behind left l)
