@@ -4,7 +4,6 @@ use mathlib.Core.Bool.{true, false}
 use mathlib.Core.List.{List, [], ◌∷◌, ◌++◌}
 use Prim.Native.Nat.{ℕ, zero, suc, ◌+◌, ◌-◌, ◌≤◌, ◌<◌}
 use native.Mathlib.Omega.{arith}
-use native.Mathlib.Numerals.{add-one}
 use lib.ListN.{length, get_or}
 use Rattle.base.proofs.Bools.{clash}
 use Rattle.image.specs.Instruction.{wrong_byte}
@@ -54,15 +53,15 @@ search_next line.Program ls (suc n) some s =
 search_next (line.Instruction i) ls (suc n) some s = record { line_is = omega (arith, s.line_is); program_is = s.program_is; some = s.some }
 search_next line.Other ls (suc n) some s = record { line_is = omega (arith, s.line_is); program_is = s.program_is; some = s.some }
 
-pub search_program : {all : List Line} {p : ℕ} {l : Line} {ls : List Line} {behind : ℕ} (left : ℕ) → begins l ≡ true → Search all p (l ∷ ls) behind (left + 1)
-    → Search all p ls (behind + 1) left
+pub search_program : {all : List Line} {p : ℕ} {l : Line} {ls : List Line} {behind : ℕ} (left : ℕ) → begins l ≡ true
+    → Search all p (l ∷ ls) behind (left + 1) → Search all p ls (behind + 1) left
 unfolding left_behind
 search_program {l = l} {ls = ls} left e s =
     let less : left + 1 - 1 ≡ left = omega arith in
     rw (e, less) at (search_next l ls (left + 1) (omega arith) s)
 
-pub search_other : {all : List Line} {p : ℕ} {l : Line} {ls : List Line} {behind : ℕ} (left : ℕ) → begins l ≡ false → Search all p (l ∷ ls) behind (left + 1)
-    → Search all p ls (behind + 1) (left + 1)
+pub search_other : {all : List Line} {p : ℕ} {l : Line} {ls : List Line} {behind : ℕ} (left : ℕ) → begins l ≡ false
+    → Search all p (l ∷ ls) behind (left + 1) → Search all p ls (behind + 1) (left + 1)
 unfolding left_behind
 search_other {l = l} {ls = ls} left e s = rw e at (search_next l ls (left + 1) (omega arith) s)
 

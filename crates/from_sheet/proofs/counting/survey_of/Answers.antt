@@ -8,7 +8,8 @@ use borrow.Author.Rules.{rules}
 use Rattle.std.proofs.lemmas.Result.{err_from_is_err_and}
 use Rattle.sheet.specs.Sheet.{bad_line}
 use Rattle.from_sheet.specs.Passes.{tally, last_bad}
-use Rattle.from_sheet.proofs.Passing.{lines_next, bad_next, last_is, last_good_lem, none_checked, bad_checked, nothing_behind, tally_other, tally_next, small_next}
+use Rattle.from_sheet.proofs.Passing.{lines_next, bad_next, last_is, last_good_lem, none_checked, bad_checked, nothing_behind}
+use Rattle.from_sheet.proofs.Passing.{tally_other, tally_next, small_next}
 use Rattle.from_sheet.proofs.counting.survey_of.Goals as goal
 use Rattle.from_sheet.proofs.counting.survey_of.Goals.{After-last_checked}
 
@@ -22,7 +23,8 @@ pub returns-then-not-allowed : goal.returns-then-not-allowed
 returns-then-not-allowed c =
     let i = c.loop-end.invariant in
     let bad = sym c.allowed.ensures ∙ c.if-not-allowed.true in
-    let e : c.loop-end.place + 1 ≡ bad_line c.args.sheet.now = sym (sym i.1 ∙ bad_next c.args.sheet.now c.loop-end.at c.loop-end.end c.loop-end.place i.0 (omega arith) ∙ rw (← c.line_of-line.ensures, bad)) in
+    let next = bad_next c.args.sheet.now c.loop-end.at c.loop-end.end c.loop-end.place i.0 (omega arith) in
+    let e : c.loop-end.place + 1 ≡ bad_line c.args.sheet.now = sym (sym i.1 ∙ next ∙ rw (← c.line_of-line.ensures, bad)) in
     (e, omega arith)
 
 pub loop-end-preserved : goal.loop-end-preserved
@@ -55,8 +57,6 @@ returns c =
     let i = c.loop-end.invariant in
     let whole : c.loop-end.end ≡ length c.args.sheet.now = omega (arith, i.0.within) in
     let z = none_checked _ c.in_ok-last_checked.ensures in
-    let none : c.loop-end.end - c.loop-end.at ≡ 0 = last_good_lem c.loop-end.place (c.loop-end.end - c.loop-end.at) z in (
-      sym (last (goal.at.returns c).After-last_checked) ∙ z,
-      sym (ap (tally c.loop-end.sizes) (nothing_behind c.args.sheet.now c.loop-end.at c.loop-end.end c.loop-end.place i.0 whole (omega (arith, none))) ∙ tally_other c.loop-end.sizes)
-          ∙ i.4,
-    )
+    let none : c.loop-end.end - c.loop-end.at ≡ 0 = last_good_lem c.loop-end.place (c.loop-end.end - c.loop-end.at) z in
+    let rest = nothing_behind c.args.sheet.now c.loop-end.at c.loop-end.end c.loop-end.place i.0 whole (omega (arith, none)) in
+    (sym (last (goal.at.returns c).After-last_checked) ∙ z, sym (ap (tally c.loop-end.sizes) rest ∙ tally_other c.loop-end.sizes) ∙ i.4)
