@@ -48,8 +48,7 @@ fn read_line(
                 begun: reading.begun,
             })
         }
-        sheet::Line::Rule(_) => Ok(reading),
-        sheet::Line::Other => Ok(reading),
+        sheet::Line::Rule(_) | sheet::Line::Other => Ok(reading),
     }
 }
 
