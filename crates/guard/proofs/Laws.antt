@@ -1,6 +1,7 @@
 -- The laws of signed numbers and guards: the code's comparison is the signed one, and the list that is made for the full range has it.
 -- Assumes nothing.
-use Rattle.std.proofs.Common.{int_lt, ◌≡◌, ℕ, suc, ◌+◌, ◌-◌, ◌*◌, ◌%◌, ◌^◌, ◌<◌, ◌≤◌, false, ltb, pos, negsuc, ◌∙◌, arith, le-ltb, lt-ltb, eq-eqb, ne_eqb}
+use Rattle.std.proofs.Common.{◌≡◌, ℕ, suc, ◌+◌, ◌-◌, ◌*◌, ◌%◌, ◌^◌, ◌<◌, ◌≤◌, false, ltb, pos, negsuc, int_lt, ◌∙◌, arith}
+use Rattle.std.proofs.Common.{le-ltb, lt-ltb, eq-eqb, ne_eqb}
 use Rattle.std.proofs.lemmas.Int.{ints}
 use Rattle.std.proofs.lemmas.Bool.Decides.{nat_tests}
 use Rattle.base.proofs.Tables.{tabulate_at}

@@ -8,7 +8,8 @@ use Rattle.machine.specs.declared.Machine.{Machine}
 use Rattle.machine.specs.declared.FaultKind.TheVariants as fault
 use Rattle.machine.specs.declared.Run.TheVariants.{Finished, Rejected, Faulted}
 use Rattle.machine.specs.Asks.{Ask, halt, move, fetch, put, start, reg, written, passed, byte_here, ask_at}
-use Rattle.machine.specs.Runs.{Effect, stop, next, Judge, outside, unfit, perform, ended, follow, run_from, run_by, run_of, free_run, unguarded, store_at}
+use Rattle.machine.specs.Runs.{Effect, stop, next, Judge, outside, unfit, perform, ended, follow, run_from, run_by, run_of, free_run, unguarded}
+use Rattle.machine.specs.Runs.{store_at}
 use Rattle.machine.proofs.Asked.{by_operation}
 use Rattle.machine.proofs.Laws.{turn_of}
 use Rattle.machine.proofs.Values.{judges_agree}
@@ -56,7 +57,8 @@ module _ (may : Judge) (p t : List ℕ) (at : ℕ) where
   turn_met m l u (fetch a c) e n l' s = go (ltb c (length t)) s
     where
       go : (b : Bool)
-          → cond b (next (written m a (loaded l c (get_or t c 0))) (with_read l c)) (stop (Faulted fault.Load m.place) l) ≡ stop (Faulted fault.Guard at) l'
+          → cond b (next (written m a (loaded l c (get_or t c 0))) (with_read l c)) (stop (Faulted fault.Load m.place) l)
+          ≡ stop (Faulted fault.Guard at) l'
           → Met may p t m at
       go true q = cc
       go false q = cc

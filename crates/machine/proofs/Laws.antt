@@ -1,6 +1,7 @@
 -- The laws of a run, for everyone above: what it reads and stores, that its reads decide it, the slot that it leaves, and which programs can
 -- be run. `may` says which values may be stored to which cells: a guard list's judgement, or any other. Assumes nothing.
-use Rattle.std.proofs.Common.{◌≡◌, ℕ, zero, suc, ◌+◌, ◌<◌, ◌≤◌, Bool, true, false, cond, ltb, List, [], ◌∷◌, length, get_or, sym, refl, ◌∙◌, add-zero, arith, length-set, ltb-true}
+use Rattle.std.proofs.Common.{◌≡◌, ℕ, zero, suc, ◌+◌, ◌<◌, ◌≤◌, Bool, true, false, cond, ltb, List, [], ◌∷◌, length, get_or, sym, refl, ◌∙◌, add-zero}
+use Rattle.std.proofs.Common.{arith, length-set, ltb-true}
 use Rattle.base.specs.Words.{has}
 use Rattle.base.proofs.Numbers.{every_at}
 use Rattle.image.specs.Limits.{max_program_bytes}

@@ -105,8 +105,8 @@ module _ (may : Judge) (p t : List ℕ) (bytes : Under 256 p) (cells : Under wor
   ends_small : Under word (run_by may p t).last.registers
   unfolding run_by
   ends_small =
-      let w = run_last may p t Fine (λ m l h. goes_on (perform may t m l (ask_at p m)) (turn_small m l h)) (instructions_of p) start empty fine_start in
-      w.1.fine_registers
+      let on = λ (m : Machine) (l : Log) (h : Fine m l). goes_on (perform may t m l (ask_at p m)) (turn_small m l h) in
+      (run_last may p t Fine on (instructions_of p) start empty fine_start).1.fine_registers
 
 module _ (may : Judge) (p t : List ℕ) (bytes : (i : ℕ) → get_or p i 0 < 256) (cells : (i : ℕ) → get_or t i 0 < 2 ^ 32) where
   pub values_fit : (i : ℕ) → get_or (run_by may p t).log.values i 0 < 2 ^ 32

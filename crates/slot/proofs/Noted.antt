@@ -1,5 +1,6 @@
 -- What each store of `note_read` and `note_store` does to a slot that holds a log. Assumes nothing.
-use Rattle.std.proofs.Common.{ℕ, suc, ◌+◌, ◌-◌, ◌≤◌, ◌<◌, ◌≡◌, refl, sym, ap, ◌∙◌, true, false, Option, Some, None, is_some, IfSome, List, [], ◌∷◌, ◌++◌, arith, length, get_or, set, replicate, length-append, length-set}
+use Rattle.std.proofs.Common.{ℕ, suc, ◌+◌, ◌-◌, ◌≤◌, ◌<◌, ◌≡◌, refl, sym, ap, ◌∙◌, true, false, Option, Some, None, is_some, IfSome, List, [], ◌∷◌}
+use Rattle.std.proofs.Common.{◌++◌, arith, length, get_or, set, replicate, length-append, length-set}
 use Rattle.std.proofs.lemmas.List.{length_push}
 use Rattle.base.specs.Words.{words}
 use Rattle.std.proofs.Math.Seq.{set_at, set-append_left, append_snoc}
@@ -7,7 +8,8 @@ use Rattle.base.proofs.Parts.{words_at, set_between}
 use Rattle.slot.specs.States.{waiting}
 use Rattle.slot.specs.Layout.{read_count, store_count, list_words, first_read, first_store, first_value}
 use Rattle.slot.specs.Log.{Log, cells_of, place_in, found_place, newest_in, once, loaded, with_read, with_store, pad, layout, log_of, Holds}
-use Rattle.slot.proofs.Places.{found_place_none, found_place_any, found_place_some, found_place_below, found, place_bound, one_place, once_new, once_old}
+use Rattle.slot.proofs.Places.{found_place_none, found_place_any, found_place_some, found_place_below, found, place_bound, one_place, once_new}
+use Rattle.slot.proofs.Places.{once_old}
 use Rattle.slot.specs.declared.ListKind.{ListKind}
 use Rattle.slot.specs.declared.ListKind.TheVariants.{Reads, Stores}
 use Rattle.slot.proofs.ListKinds.{each_kind}

@@ -1,5 +1,6 @@
 -- A cell's place in a list, and a list with the cell once. Assumes nothing.
-use Rattle.std.proofs.Common.{ℕ, zero, suc, ◌+◌, ◌≤◌, ◌<◌, Bool, true, false, not, cond, ◌⊎◌, inl, inr, ◌≡◌, refl, sym, Option, Some, IfSome, is_some, List, [], ◌∷◌, ◌++◌, add-one, arith, length, get_or, eqb, eqb-true, eq-eqb, ne_eqb}
+use Rattle.std.proofs.Common.{ℕ, zero, suc, ◌+◌, ◌≤◌, ◌<◌, Bool, true, false, not, cond, ◌⊎◌, inl, inr, ◌≡◌, refl, sym, Option, Some, IfSome, is_some}
+use Rattle.std.proofs.Common.{List, [], ◌∷◌, ◌++◌, add-one, arith, length, get_or, eqb, eqb-true, eq-eqb, ne_eqb}
 use Rattle.std.proofs.lemmas.List.{length_push}
 use Rattle.base.specs.Words.{has, distinct}
 use Rattle.base.proofs.Bools.{clash, not_true, nots, and_left, and_right}

@@ -1,5 +1,6 @@
 -- What a run has read and stored so far, by document 01, "Instructions", and the slot that holds it. Assumes nothing.
-use Rattle.std.specs.Prelude.{ℕ, zero, suc, ◌-◌, ◌≤◌, ◌<◌, ◌≡◌, Bool, true, cond, Option, Some, None, List, [], ◌∷◌, ◌++◌, length, get_or, set, replicate, eqb}
+use Rattle.std.specs.Prelude.{ℕ, zero, suc, ◌-◌, ◌≤◌, ◌<◌, ◌≡◌, Bool, true, cond, Option, Some, None, List, [], ◌∷◌, ◌++◌, length, get_or, set}
+use Rattle.std.specs.Prelude.{replicate, eqb}
 use Rattle.base.specs.Words.{has, distinct, words}
 use Rattle.slot.specs.declared.ListKind.{ListKind}
 use Rattle.slot.specs.declared.ListKind.TheVariants.{Reads, Stores}
