@@ -34,22 +34,23 @@ bad_line_refused sheet out h =
     (ap numbers_of_written (unless_refused (image_of_refusal sheet out) Err _ e), unless_refused (image_of_refusal sheet out) _ _ e)
 
 -- any other refusal, which has no line
+abbrev checks : Checks ImageRefusal → (fits : Bool) → Checks Unwritten
+checks q fits = after (given_as as_image q) (check fits (Refused TooShort) passed)
+
+no_line : (q : Checks ImageRefusal) (fits : Bool) {r : Unwritten} (n : ℕ) (written out : List ℕ) → checks q fits ≡ Err r
+    → (numbers_of_written (unless (checks q fits) Err (Ok n)) ≡ refused_with (told_of_sheet (checks q fits)) 0)
+    × (unless (checks q fits) (λ x. out) written ≡ out)
+unfolding check after given_as unless
+no_line (Ok done) true n written out e = absurd (cc)
+no_line (Ok done) false n written out e = (refl, refl)
+no_line (Err x) fits n written out e = (refl, refl)
+
 pub image_of_refused : (sheet out : List ℕ) → bad_line sheet ≡ 0 → {r : Unwritten} → image_of_refusal sheet out ≡ Err r
     → (numbers_of_written (image_of_answer sheet out) ≡ refused_with (told_of_sheet (image_of_refusal sheet out)) 0) × (image_of_output sheet out ≡ out)
-unfolding image_of_answer image_of_output image_of_refusal sheet_refusal check after given_as unless
-image_of_refused sheet out good {r} e =
+unfolding image_of_answer image_of_output image_of_refusal sheet_refusal check
+image_of_refused sheet out good e =
     let all = eq-eqb (bad_line sheet) 0 good in
-    rw all (go (programs_refusal (programs_of sheet)) (leb (length (image_of_sheet sheet)) (length out)) (rw all at e))
-  where
-    abbrev checks : Checks ImageRefusal → Bool → Checks Unwritten
-    checks q fits = after (given_as as_image q) (cond fits passed (Err (Refused TooShort)))
-
-    go : (q : Checks ImageRefusal) (fits : Bool) → checks q fits ≡ Err r
-        → (numbers_of_written (unless (checks q fits) Err (Ok (length (image_of_sheet sheet)))) ≡ refused_with (told_of_sheet (checks q fits)) 0)
-        × (unless (checks q fits) (λ x. out) (image_of_sheet sheet ++ drop (length (image_of_sheet sheet)) out) ≡ out)
-    go (Ok done) true e = absurd (cc)
-    go (Ok done) false e = (refl, refl)
-    go (Err x) fits e = (refl, refl)
+    rw all (no_line (programs_refusal (programs_of sheet)) (leb (length (image_of_sheet sheet)) (length out)) _ _ out (rw all at e))
 
 pub sheet_of_refused : (image out : List ℕ) {r : Refusal} → sheet_of_refusal image out ≡ Err r
     → (numbers_of_written (as_written (sheet_of_answer image out)) ≡ refused_with (numbers_of r) 0) × (sheet_of_output image out ≡ out)
