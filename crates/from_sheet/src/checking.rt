@@ -4,9 +4,8 @@ ghost use Rattle.image.specs.Limits.{max_program_bytes};
 ghost use Rattle.image.specs.Instruction.{program_fault};
 ghost use Rattle.from_sheet.specs.Passes.{lines_from, body_of, InRoom, Reads, Readable, still_fault};
 
-use image::BadInstruction;
-
 use crate::lines::Lines;
+use image::BadInstruction;
 
 // How many bytes of the program that is being read stand in the room, and how many programs have begun.
 #[derive(Clone, Copy)]
@@ -25,7 +24,11 @@ fn read_fault(room: &[u8], reading: Reading) -> Result<(), BadInstruction>
 
 // A line more: where it begins a program, the one before it is looked at.
 #[tactic(auto, unfolding(crate::specs::Passes::found_at, crate::specs::Passes::read_after, crate::specs::Passes::begun_after, crate::specs::Passes::body_of))]
-fn read_line(room: &mut [u8], reading: Reading, line: sheet::Line) -> Result<Reading, BadInstruction>
+fn read_line(
+    room: &mut [u8],
+    reading: Reading,
+    line: sheet::Line,
+) -> Result<Reading, BadInstruction>
     requires { InRoom room.old reading × (reading.used + length (body_of line) ≤ length room.old) }
     ensures { Reads room.old reading line room.new result }
 {

@@ -8,10 +8,9 @@ ghost use Rattle.from_sheet.specs.Passes.{lines_from};
 ghost use Rattle.from_sheet.specs.Lines.{lines_left};
 ghost use Rattle.from_sheet.specs.WrongLines.{begins, wrong_line, Begins, Stands};
 
-use text::Page;
-
 use crate::lines::Lines;
 use crate::writing::put_body;
+use text::Page;
 
 // A line of a sheet by its number, from 1, and the byte that is wrong with its instruction.
 #[derive(Clone, Copy)]

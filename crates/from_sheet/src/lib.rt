@@ -12,12 +12,10 @@ mod finding;
 mod lines;
 mod writing;
 
+use crate::counting::Sizes;
 pub use finding::{WrongLine, wrong_line};
-
 use image::{ImageRefusal, Refusal};
 use sheet::Unwritten;
-
-use crate::counting::Sizes;
 
 const NEWLINE: u8 = b'\n';
 

@@ -7,9 +7,8 @@ ghost use Rattle.sheet.specs.Sheet.{rule_of};
 ghost use Rattle.from_sheet.specs.FromSheet.{image_of_sheet};
 ghost use Rattle.from_sheet.specs.Passes.{lines_from, body_of, bodies, offset_at, offsets_from, Writable};
 
-use text::Page;
-
 use crate::lines::Lines;
+use text::Page;
 
 // The offset that a line brings, if it begins a program; and where the program ends with it, of which so much stands before the line.
 #[tactic(auto, using(text::proofs::Pages::put_none), unfolding(crate::specs::Passes::offset_at, crate::specs::Passes::body_of))]

@@ -51,21 +51,15 @@ pub fn read_input(rt: &impl Input, program: &[u8], input: &mut [u8]) -> usize
     there
 }
 
-// A byte as a word.
-fn wide(byte: u8) -> u32
-    ensures { (result ≡ byte) × (result < 256) }
-{
-    byte as u32
-}
-
 // T, where the prefix is good: the input has the bytes that it needs, and T is within 1 to 256.
+#[tactic(auto, unfolding(crate::specs::Prefix::cells_of, crate::specs::Prefix::prefix_good, image::specs::Image::number_at))]
 pub fn cells_of(input: &[u8]) -> Option<usize>
     ensures { result ≡ cells_of input.now }
 {
     if input.len() < COUNT_BYTES {
         return None;
     }
-    let cells = (wide(input[0]) + 256 * wide(input[1])) as usize;
+    let cells = usize::from(u16::from_le_bytes([input[0], input[1]]));
     if !(image::Image::LEAST_CELLS..=image::Image::CELLS).contains(&cells) {
         return None;
     }
@@ -76,24 +70,22 @@ pub fn cells_of(input: &[u8]) -> Option<usize>
 }
 
 // The word of four bytes at a place, low first.
+#[tactic(auto, unfolding(crate::specs::Prefix::word_at))]
 fn word_at(input: &[u8], at: usize) -> u32
     requires { at + 4 ≤ length input.now }
     ensures { result ≡ word_at input.now at }
 {
-    wide(input[at])
-        + 256 * wide(input[at + 1])
-        + 65536 * wide(input[at + 2])
-        + 16777216 * wide(input[at + 3])
+    u32::from_le_bytes([input[at], input[at + 1], input[at + 2], input[at + 3]])
 }
 
 // The words from a place on, as many as fill what is lent.
+#[tactic(auto, using(base::proofs::Tables::tabulate_is))]
 fn read_words(input: &[u8], at: usize, words: &mut [u32])
     requires { at + 4 * length words.old ≤ length input.now }
     ensures { words.new ≡ words_from input.now at (length words.old) }
 {
-    let n = words.len();
-    for i in 0..n {
-        words[i] = word_at(input, at + CELL_BYTES * i);
+    for (i, word) in words.iter_mut().enumerate() {
+        *word = word_at(input, at + CELL_BYTES * i);
     }
 }
 

@@ -12,6 +12,7 @@ use image::{BadInstruction, Fault, ImageRefusal, Refusal, RefusalNumbers};
 use text::Page;
 
 // "refused 2".
+#[tactic(auto, unfolding(crate::specs::Refused::refused_line))]
 pub fn put_refused(page: &mut Page, refusal: Refusal)
     requires { Fits page.old (refused_line refusal) }
     ensures { Put page.old (refused_line refusal) page.new }
@@ -20,6 +21,7 @@ pub fn put_refused(page: &mut Page, refusal: Refusal)
 }
 
 // "refused 51 line 3". The line's number may have 64 bits.
+#[tactic(auto, unfolding(crate::specs::Refused::refused_at_line))]
 pub fn put_refused_at(page: &mut Page, refusal: RefusalNumbers, line: usize)
     requires { Fits page.old (refused_at_line refusal line) }
     ensures { Put page.old (refused_at_line refusal line) page.new }
@@ -49,6 +51,7 @@ pub fn where_at_room() -> [u8; WHERE_AT_BYTES]
 }
 
 // What is wrong with a byte, by its fault.
+#[tactic(auto, unfolding(crate::specs::Where::wrong_text))]
 fn put_wrong(page: &mut Page, fault: Fault, byte: u8)
     requires { Fits page.old (filled (wrong_text fault) (byte ∷ [])) }
     ensures { Put page.old (filled (wrong_text fault) (byte ∷ [])) page.new }
@@ -63,15 +66,20 @@ fn put_wrong(page: &mut Page, fault: Fault, byte: u8)
 }
 
 // "program 2, instruction 5: register 9 is over 7".
+#[tactic(auto, unfolding(crate::specs::Where::where_text))]
 pub fn put_where(page: &mut Page, bad: BadInstruction, byte: u8)
     requires { Fits page.old (where_text bad byte) }
     ensures { Put page.old (where_text bad byte) page.new }
 {
-    page.filled(b"program #, instruction #: ", &[bad.program, bad.instruction]);
+    page.filled(
+        b"program #, instruction #: ",
+        &[bad.program, bad.instruction],
+    );
     put_wrong(page, bad.fault, byte);
 }
 
 // "line 14, program 2, instruction 5: register 9 is over 7".
+#[tactic(auto, unfolding(crate::specs::Where::where_at_line))]
 pub fn put_where_at(page: &mut Page, bad: BadInstruction, line: usize, byte: u8)
     requires { Fits page.old (where_at_line bad line byte) }
     ensures { Put page.old (where_at_line bad line byte) page.new }
@@ -87,7 +95,10 @@ pub fn image_where(image: &[u8], out: &mut [u8]) -> usize
     requires { most_where ≤ length out.old }
     ensures { PageSays (image_where image.now) out.old result out.new }
 {
-    let Err(ImageRefusal::Instruction(bad)) = image::image_refusal(image) else {
+    let Err(refusal) = image::image_refusal(image) else {
+        return 0;
+    };
+    let ImageRefusal::Instruction(bad) = refusal else {
         return 0;
     };
     let program = image::part_of(image, bad.program as usize);

@@ -6,9 +6,8 @@ ghost use Rattle.sheet.specs.Sheet.{operations, name_of};
 
 mod reading;
 
-pub use reading::{line_of, part_end};
-
 use image::{ImageRefusal, Refusal};
+pub use reading::{line_of, part_end};
 
 // An instruction: its operation, a number from 0 to 8 that has a name, and its three bytes.
 #[derive(Clone, Copy)]

@@ -77,5 +77,5 @@ returns c =
     let none : c.loop-end.end - c.loop-end.at ≡ 0 = last_good_lem c.loop-end.place (c.loop-end.end - c.loop-end.at) z in (
       sym (last (goal.at.returns c).After-last_checked) ∙ z,
       sym (ap (tally c.loop-end.sizes) (nothing_behind c.args.sheet.now c.loop-end.at c.loop-end.end c.loop-end.place i.0 whole (omega (arith, none))) ∙ tally_other c.loop-end.sizes)
-      ∙ i.4,
+          ∙ i.4,
     )

@@ -22,8 +22,8 @@ pub returns : goal.returns
 returns c =
     let last : leading (lines_left c.loop-line.line-iterator) ≡ [] =
     elim c.match-next.branch [
-      in-None w ↦ ap leading w.in-None.ensures.steps.0 ∙ leading_none
-    | in-Some+then-begins w ↦ ap leading w.in-Some.ensures.steps ∙ leading_end _ _ (sym w.begins.ensures ∙ w.if-begins.true)
+      | in-None w ↦ ap leading w.in-None.ensures.steps.0 ∙ leading_none
+      | in-Some+then-begins w ↦ ap leading w.in-Some.ensures.steps ∙ leading_end _ _ (sym w.begins.ensures ∙ w.if-begins.true)
     ] in
     let put = rw c.into_iter-line-iterator.ensures.into_iter_gives at (partly_end c.loop-line.invariant last) in
     search (rules, put)
