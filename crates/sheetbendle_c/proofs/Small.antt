@@ -6,12 +6,11 @@ use native.Mathlib.Omega.{arith}
 use lib.Dec.{leb}
 use lib.ListN.{length, get_or}
 use borrow.Author.Tests.{leb-true, eqb-true}
-use Rattle.std.specs.Prelude.{Result, Ok, Err}
+use Rattle.std.specs.Prelude.{Ok, Err}
 use Rattle.base.specs.Words.{count}
 use Rattle.base.proofs.Bools.{and_right}
 use Rattle.base.proofs.Counts.{count_le}
 use Rattle.image.specs.Limits.{min_bytes, max_bytes}
-use Rattle.image.specs.declared.refusals.Refusal.{Refusal}
 use Rattle.image.specs.declared.refusals.Refusal.TheVariants.{NoOrder}
 use Rattle.image.specs.Refusals.{passed, numbers_of_count}
 use Rattle.image.specs.Image.{count_of, size_good}
@@ -23,7 +22,6 @@ use Rattle.listing.specs.Listing.{committed_count, order_of, order_exists, list_
 use Rattle.listing.proofs.Orders.{list_shows}
 use Rattle.carry.specs.Next.{next_image, next_refusal, next_answer}
 use Rattle.carry.proofs.Nexts.{next_good}
-use Rattle.sheet.specs.Answers.{numbers_of_written, as_written}
 use Rattle.from_image.specs.FromImage.{sheet_of_answer}
 use Rattle.from_image.specs.Longest.{longest_sheet}
 use Rattle.from_image.proofs.Longest.{sheet_small}
