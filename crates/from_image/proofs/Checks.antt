@@ -1,5 +1,5 @@
 -- The checks of the call: what no refusal shows, and what the call answers and leaves. Assumes nothing.
-use mathlib.Core.Path.{◌≡◌, refl, ap, sym}
+use mathlib.Core.Path.{◌≡◌, refl, ap}
 use mathlib.Core.List.{List}
 use Prim.Native.Nat.{ℕ}
 use native.Mathlib.Omega.{arith}

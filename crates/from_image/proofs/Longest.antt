@@ -9,7 +9,7 @@ use native.Mathlib.Omega.{arith}
 use lib.Dec.{ltb, leb}
 use Rattle.std.specs.Prelude.{Err}
 use lib.ListN.{length, get_or, length-append}
-use borrow.Author.Tests.{ltb-true, ltb-false, leb-true, le-leb, eqb-true, eqb-false}
+use borrow.Author.Tests.{ltb-true, ltb-false, leb-true, le-leb, eqb-true}
 use Rattle.base.specs.Words.{every}
 use Rattle.base.proofs.Bools.{and_both}
 use Rattle.base.proofs.Bools as bools
@@ -22,7 +22,7 @@ use Rattle.image.specs.Limits.{max_instructions, registers}
 use Rattle.image.specs.Instruction.{Kind, register, unused, skip, free, rows, known, kinds_of, register_good, unused_good, skip_good, instructions_of}
 use Rattle.image.specs.Image.{count_of, rule_byte, part_of, refusal_of, image_checks}
 use Rattle.image.specs.declared.refusals.Refusal.TheVariants.{Image, TooShort}
-use Rattle.image.specs.Refusals.{passed, given_as}
+use Rattle.image.specs.Refusals.{passed}
 use Rattle.image.proofs.Faults.{GoodBytes, good_at}
 use Rattle.image.proofs.Laws.{accepted, part_bytes}
 use Rattle.image.proofs.Refusing.{either, none_after, passed_given, given_passed, given_refused, goes_on, first_refuses, first_passes, unless_either}

@@ -6,7 +6,7 @@ use Prim.Native.Nat.{ℕ, ◌+◌, ◌*◌, ◌≤◌, ◌<◌}
 use native.Mathlib.Omega.{arith}
 use lib.Dec.{eqb, leb}
 use lib.ListN.{length}
-use borrow.Author.Tests.{leb-true, le-leb, lt-leb, eqb-true, eq-eqb}
+use borrow.Author.Tests.{leb-true, le-leb, lt-leb, eqb-true}
 use Rattle.std.specs.Prelude.{Ok, Err}
 use Rattle.text.specs.Writing.{PageSays}
 use Rattle.text.proofs.Pages.{page_bytes}
@@ -14,7 +14,7 @@ use Rattle.image.specs.Limits.{max_programs, max_instructions, instruction_bytes
 use Rattle.image.specs.declared.refusals.ImageRefusal.TheVariants.{Header, Offsets}
 use Rattle.image.specs.declared.refusals.Refusal.TheVariants.{TooShort}
 use Rattle.image.specs.Refusals.{passed}
-use Rattle.image.proofs.Refusing.{fails, goes_on, none_fails, first_refuses, first_passes, none_after, passed_given, given_passing, refused_as_lem, done_as, unless_either}
+use Rattle.image.proofs.Refusing.{fails, goes_on, none_fails, first_refuses, first_passes, none_after, passed_given, refused_as_lem, done_as, unless_either}
 use Rattle.writer.proofs.Programs.{length_image}
 use Rattle.sheet.specs.declared.Unwritten.{Unwritten}
 use Rattle.sheet.specs.declared.Unwritten.TheVariants.{Refused, BadLine}

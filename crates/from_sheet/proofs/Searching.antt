@@ -1,13 +1,12 @@
 -- Laws of the search for a program's line and its instructions. Assumes nothing.
 use mathlib.Core.Path.{◌≡◌, refl}
-use mathlib.Core.Logic.{◌⊎◌, inl, inr}
 use mathlib.Core.Bool.{true, false}
 use mathlib.Core.List.{List, [], ◌∷◌, ◌++◌}
 use Prim.Native.Nat.{ℕ, zero, suc, ◌+◌, ◌-◌, ◌≤◌, ◌<◌}
 use native.Mathlib.Omega.{arith}
 use native.Mathlib.Numerals.{add-one}
 use lib.ListN.{length, get_or}
-use Rattle.base.proofs.Bools.{clash, known}
+use Rattle.base.proofs.Bools.{clash}
 use Rattle.image.specs.Instruction.{wrong_byte}
 use Rattle.sheet.specs.declared.Line.{Line}
 use Rattle.sheet.specs.declared.Line.TheVariants as line
@@ -42,9 +41,6 @@ pub record Search (all : List Line) (p : ℕ) (ls : List Line) (behind left : �
   pub line_is : behind + lines_to ls left ≡ begins_at p all
   pub program_is : get_or (leading ls ∷ programs ls) left [] ≡ get_or (programs all) p []
   pub some : left ≤ length (programs ls)
-
-pub search_start : (all : List Line) (p : ℕ) → p < length (programs all) → Search all p all 0 (p + 1)
-search_start all p l = record { line_is = omega arith; program_is = rw (add-one p); some = omega arith }
 
 -- a line more
 search_next : {all : List Line} {p : ℕ} (l : Line) (ls : List Line) {behind : ℕ} (left : ℕ) → 0 < left → Search all p (l ∷ ls) behind left

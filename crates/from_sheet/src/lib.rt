@@ -12,7 +12,7 @@ mod finding;
 mod lines;
 mod writing;
 
-use crate::counting::Sizes;
+use counting::Sizes;
 pub use finding::{WrongLine, wrong_line};
 use image::{ImageRefusal, Refusal};
 use sheet::Unwritten;

@@ -5,7 +5,7 @@ use Prim.Native.Nat.{ℕ, ◌≤◌}
 use lib.ListN.{length, take, drop}
 use lib.Seq.{take-append_seam}
 use borrow.Author.Tests.{le-leb}
-use Rattle.std.specs.Prelude.{Result, Ok, Err}
+use Rattle.std.specs.Prelude.{Ok, Err}
 use Rattle.image.specs.declared.refusals.Refusal.TheVariants.{Image, TooShort}
 use Rattle.image.specs.Refusals.{passed, unless}
 use Rattle.image.specs.Image.{refusal_of, image_checks}

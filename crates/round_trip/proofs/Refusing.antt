@@ -1,11 +1,11 @@
 -- "A refusal returns its number, 0 for every other result, and changes no lent memory": of the two calls, where 51 returns its line too, and 41 to 44 program
 -- and instruction. Assumes nothing.
 use mathlib.Core.Path.{◌≡◌, refl, sym, ap}
-use mathlib.Core.Bool.{Bool, true, false, cond}
-use mathlib.Core.List.{List, ◌++◌}
+use mathlib.Core.Bool.{Bool, true, false}
+use mathlib.Core.List.{List}
 use Prim.Native.Nat.{ℕ}
 use lib.Dec.{leb}
-use lib.ListN.{length, drop}
+use lib.ListN.{length}
 use borrow.Author.Tests.{eq-eqb, ne_eqb}
 use Rattle.std.specs.Prelude.{Ok, Err}
 use Rattle.image.specs.declared.refusals.ImageRefusal.{ImageRefusal}
@@ -15,7 +15,7 @@ use Rattle.image.specs.declared.refusals.RefusalNumbers.{RefusalNumbers}
 use Rattle.image.specs.Refusals.{passed, line, numbers_of, check, after, given_as, unless}
 use Rattle.image.proofs.Refusing.{Checks, fails, first_refuses, unless_refused}
 use Rattle.sheet.specs.declared.Unwritten.{Unwritten}
-use Rattle.sheet.specs.declared.Unwritten.TheVariants.{Refused, BadLine}
+use Rattle.sheet.specs.declared.Unwritten.TheVariants.{Refused}
 use Rattle.sheet.specs.Answers.{TextNumbers, as_image, told_of_sheet, numbers_of_written, as_written}
 use Rattle.sheet.specs.Sheet.{bad_line}
 use Rattle.from_sheet.specs.FromSheet.{programs_of, programs_refusal, image_of_sheet, sheet_refusal, image_of_refusal, image_of_answer, image_of_output}

@@ -1,5 +1,4 @@
 -- A refusal is answered and the output is left; otherwise the checks have shown what `write_image` needs, and its length is the answer. Assumes nothing.
-use mathlib.Core.Path.{◌≡◌}
 use Prim.Native.Nat.{◌≤◌, ◌<◌}
 use lib.ListN.{length}
 use borrow.Author.Rules.{rules}

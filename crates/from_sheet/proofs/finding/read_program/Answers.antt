@@ -2,7 +2,7 @@
 use mathlib.Core.Path.{◌≡◌, sym, ap, ◌∙◌}
 use mathlib.Core.List.{[]}
 use borrow.Author.Rules.{rules}
-use Rattle.text.proofs.Pages.{partly_room, partly_more, partly_end, page_done}
+use Rattle.text.proofs.Pages.{partly_room, partly_more, partly_end}
 use Rattle.sheet.specs.Sheet.{leading}
 use Rattle.from_sheet.specs.Lines.{lines_left}
 use Rattle.from_sheet.proofs.Searching.{leading_none, leading_end, leading_next}

@@ -1,12 +1,10 @@
 -- The line that begins the program, and what stands behind it. Assumes nothing.
-use mathlib.Core.Path.{◌≡◌, ap, ◌∙◌}
-use mathlib.Core.List.{List}
+use mathlib.Core.Path.{◌≡◌}
 use Prim.Native.Nat.{◌+◌, ◌≤◌}
 use native.Mathlib.Omega.{arith}
 use lib.ListN.{length}
 use borrow.Author.Rules.{rules}
-use Rattle.sheet.specs.declared.Line.{Line}
-use Rattle.sheet.specs.Sheet.{leading, programs}
+use Rattle.sheet.specs.Sheet.{leading}
 use Rattle.from_sheet.specs.Lines.{lines_left}
 use Rattle.from_sheet.specs.WrongLines.{program_at}
 use Rattle.from_sheet.proofs.Passing.{lines_all, lines_few}

@@ -1,5 +1,5 @@
 -- The line is what stands up to the next newline, and the rest begins behind that. Assumes nothing.
-use mathlib.Core.Path.{◌≡◌, ap, ◌∙◌}
+use mathlib.Core.Path.{ap, ◌∙◌}
 use borrow.Author.Rules.{rules}
 use lib.ListN.{length}
 use Rattle.from_sheet.proofs.Passing.{lines_next}
