@@ -221,16 +221,15 @@ impl Machine {
     {
         let c = self.register(b);
         let i = c as usize;
-        if i < table.len() {
-            match slot::stored_place(slot, c) {
-                Some(k) => self.written(a, slot[slot::VALUES + k]).goes(),
-                None => {
-                    slot::note_read(slot, c);
-                    self.written(a, table[i]).goes()
-                }
+        if i >= table.len() {
+            return self.faults(FaultKind::Load);
+        }
+        match slot::stored_place(slot, c) {
+            Some(k) => self.written(a, slot[slot::VALUES + k]).goes(),
+            None => {
+                slot::note_read(slot, c);
+                self.written(a, table[i]).goes()
             }
-        } else {
-            self.faults(FaultKind::Load)
         }
     }
 
@@ -242,16 +241,14 @@ impl Machine {
         let c = self.register(a);
         let v = self.register(b);
         let i = c as usize;
-        if i < table.len() {
-            if guard::admits(guards, i, v) {
-                slot::note_store(slot, c, v);
-                self.passed().goes()
-            } else {
-                self.faults(FaultKind::Guard)
-            }
-        } else {
-            self.faults(FaultKind::Store)
+        if i >= table.len() {
+            return self.faults(FaultKind::Store);
         }
+        if !guard::admits(guards, i, v) {
+            return self.faults(FaultKind::Guard);
+        }
+        slot::note_store(slot, c, v);
+        self.passed().goes()
     }
 
     // One turn: the instruction op, a, b, c.
