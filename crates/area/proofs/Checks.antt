@@ -230,5 +230,7 @@ module _ (image t a : List ℕ) (c : Checked image t a) where
 
 -- how the calls go that check: check by check, and what those before have shown
 pub ruleset room_by_check = (checking, few_cells)
+
 pub ruleset open_by_check = (checking, few)
+
 pub ruleset words_by_check = (checking, room_measured, measured, checked)

@@ -38,4 +38,5 @@ module _ (image t g a : List ℕ) (k : ℕ) where
 
 -- how the steps go: check by check, with what those before have shown, and then what is done
 pub ruleset step_by_check = (checking, program_lies, measured, step_shows)
+
 pub ruleset done_by_check = (checking, refused_as_lem, done_as, gather_shows, settle_shows)
