@@ -16,7 +16,7 @@ use Rattle.writer.proofs.Programs.{good_source}
 use Rattle.carry.specs.declared.Chosen.{Chosen}
 use Rattle.carry.specs.Next.{carried_count, next_programs, next_image, lent_refusal, size_refusal, next_refusal, NextSays}
 use Rattle.carry.specs.Sources.{Choice, Sources, image_from}
-use Rattle.carry.proofs.Sources.{carried_counted, carried_programs, fresh_programs}
+use Rattle.carry.proofs.Sources.{carried_counted, carried_programs, fresh_counted, fresh_programs}
 use Rattle.carry.proofs.Checks.{lent_shows, size_shows, next_refused, next_done}
 
 module _ (image t g a fresh : List ℕ) {c : Chosen} (lent : lent_refusal image t g a fresh ≡ passed) (k : Choice image (length t) a fresh c) where
@@ -24,17 +24,17 @@ module _ (image t g a fresh : List ℕ) {c : Chosen} (lent : lent_refusal image 
   chosen_sources =
       let p = lent_shows image t g a fresh lent in
       let old = good_source image p.0.accepted c.n k.n_is c.mask in
-      let new = good_source fresh p.1 c.m k.m_is _ in
+      let new = good_source fresh p.1 c.m k.m_is c.all in
       record {
         old = rw k.image_is old;
         new = rw k.fresh_is new;
-        counted = k.counted;
+        counted = omega (arith, k.counted, k.m_is, fresh_counted fresh k.m_is k.all_is);
         few = omega (arith, k.counted, count_le (has_bit c.mask) c.n, old.few, new.few);
       }
 
   image_is : image_from c ≡ next_image (length t) image a fresh
   unfolding image_from next_image next_programs
-  image_is = rw (k.image_is, k.fresh_is, carried_programs (length t) a image k.n_is k.mask_is, fresh_programs fresh k.m_is)
+  image_is = rw (k.image_is, k.fresh_is, carried_programs (length t) a image k.n_is k.mask_is, fresh_programs fresh k.m_is k.all_is)
 
   module _ (out : List ℕ) where
     size_is : size_refusal c.programs (image_from c) out ≡ next_refusal image t g a fresh out

@@ -21,13 +21,12 @@ use Rattle.slot.specs.declared.Group.TheVariants.{Carried}
 use Rattle.area.specs.Layout.{in_group}
 use Rattle.carry.specs.declared.Chosen.{Chosen}
 use Rattle.carry.specs.Next.{carried_count, carried_of, next_programs, next_image}
-use Rattle.carry.specs.Sources.{Sources, all_fresh, old_programs, new_programs, image_from}
+use Rattle.carry.specs.Sources.{Sources, old_programs, new_programs, image_from}
 
 module _ {c : Chosen} (s : Sources c) where
   from_count : c.programs ≡ length (old_programs c ++ new_programs c)
   from_count =
-      let new_count = picked_count (has_bit (all_fresh c)) c.fresh.now c.m ∙ count_all (has_bit (all_fresh c)) c.m (mask_has (λ k. true) c.m) in
-      omega (arith, s.counted, length-append (old_programs c) (new_programs c), picked_count (has_bit c.mask) c.image.now c.n, new_count)
+      omega (arith, s.counted, length-append (old_programs c) (new_programs c), picked_count (has_bit c.mask) c.image.now c.n, picked_count (has_bit c.all) c.fresh.now c.m)
 
   pub from_length : length (image_from c) ≡ head_bytes c.programs + length (joined (old_programs c)) + length (joined (new_programs c))
   unfolding image_from
@@ -61,5 +60,9 @@ module _ (T : ℕ) (a image : List ℕ) {n mask : ℕ} (n_is : n ≡ count_of im
   carried_programs = rw (mask_is, ← n_is) (picked_ext _ _ image n (mask_has (in_group Carried T a) n))
 
 -- and of the fresh image they are all
-pub fresh_programs : (fresh : List ℕ) {m : ℕ} → m ≡ count_of fresh → picked (has_bit (mask_of (λ k. true) m)) fresh m ≡ all_of fresh
-fresh_programs fresh {m} m_is = rw (← m_is) (picked_ext _ _ fresh m (mask_has (λ k. true) m))
+module _ (fresh : List ℕ) {m all : ℕ} (m_is : m ≡ count_of fresh) (all_is : all ≡ mask_of (λ k. true) m) where
+  pub fresh_counted : count (has_bit all) m ≡ count_of fresh
+  fresh_counted = rw all_is (count_all _ m (mask_has (λ k. true) m)) ∙ m_is
+
+  pub fresh_programs : picked (has_bit all) fresh m ≡ all_of fresh
+  fresh_programs = rw (all_is, ← m_is) (picked_ext _ _ fresh m (mask_has (λ k. true) m))

@@ -18,16 +18,13 @@ pub record Choice (image : List ℕ) (T : ℕ) (a fresh : List ℕ) (c : Chosen)
   pub n_is : c.n ≡ count_of image
   pub m_is : c.m ≡ count_of fresh
   pub mask_is : c.mask ≡ mask_of (in_group Carried T a) c.n
+  pub all_is : c.all ≡ mask_of (λ k. true) c.m
   pub counted : c.programs ≡ count (has_bit c.mask) c.n + c.m
-
--- the mask of all the fresh image's programs
-abbrev pub all_fresh : Chosen → ℕ
-all_fresh c = mask_of (λ k. true) c.m
 
 pub record Sources (c : Chosen) : Type 0 where
   pub old : Source c.image.now c.n c.mask
-  pub new : Source c.fresh.now c.m (all_fresh c)
-  pub counted : c.programs ≡ count (has_bit c.mask) c.n + c.m
+  pub new : Source c.fresh.now c.m c.all
+  pub counted : c.programs ≡ count (has_bit c.mask) c.n + count (has_bit c.all) c.m
   pub few : c.programs ≤ 2 * max_programs
 
 -- the programs of each of the two, and the image of both
@@ -35,7 +32,7 @@ abbrev pub old_programs : Chosen → List (List ℕ)
 old_programs c = picked (has_bit c.mask) c.image.now c.n
 
 abbrev pub new_programs : Chosen → List (List ℕ)
-new_programs c = picked (has_bit (all_fresh c)) c.fresh.now c.m
+new_programs c = picked (has_bit c.all) c.fresh.now c.m
 
 unfoldable pub image_from : Chosen → List ℕ
 image_from c = image_of (rule_byte c.fresh.now) (old_programs c ++ new_programs c)

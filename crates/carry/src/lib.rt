@@ -10,22 +10,24 @@ ghost use Rattle.carry.specs.Next.{lent_refusal, size_refusal, NextSays};
 
 use image::Refusal;
 
-// What goes into the next image: the programs of an image that a mask has, of its n, and all m of the fresh one's; and how many they are together.
+// What goes into the next image: of an image's n programs those that a mask has, and the same of the fresh one's; and how many they are together.
 #[derive(Clone, Copy)]
 pub struct Chosen<'a> {
-    pub image: &'a [u8],
-    pub n: usize,
-    pub mask: u64,
-    pub fresh: &'a [u8],
-    pub m: usize,
-    pub programs: usize,
+    image: &'a [u8],
+    n: usize,
+    mask: u64,
+    fresh: &'a [u8],
+    m: usize,
+    all: u64,
+    programs: usize,
 }
 
 impl<'a> Chosen<'a> {
     ghost use Rattle.carry.specs.Sources.{Choice, Sources, image_from};
 
     // The carried programs and all of the fresh image's, where the checks of all that is lent have been made.
-    fn of(image: &'a [u8], table: &[u32], area: &[u32], fresh: &'a [u8]) -> Chosen<'a>
+    #[tactic(auto, using(area::proofs::Checks::few))]
+    pub fn of(image: &'a [u8], table: &[u32], area: &[u32], fresh: &'a [u8]) -> Chosen<'a>
         requires { Checked image.now table.now area.now × (refusal_of fresh.now ≡ passed) }
         ensures { Choice image.now (length table.now) area.now fresh.now result }
     {
@@ -39,6 +41,7 @@ impl<'a> Chosen<'a> {
             mask,
             fresh,
             m,
+            all: masks::all(m),
             programs,
         }
     }
@@ -50,7 +53,7 @@ impl<'a> Chosen<'a> {
         ensures { result ≡ length (image_from self.now) }
     {
         let old = writer::taken_bytes(self.image, self.n, self.mask);
-        let new = writer::taken_bytes(self.fresh, self.m, masks::all(self.m));
+        let new = writer::taken_bytes(self.fresh, self.m, self.all);
         image::head_bytes(self.programs) + old + new
     }
 
@@ -75,14 +78,13 @@ impl<'a> Chosen<'a> {
         requires { Sources self.now × (length (image_from self.now) ≤ length out.old) }
         ensures { Wrote out.old 0 (image_from self.now) out.new result }
     {
-        let all = masks::all(self.m);
         let first = image::head_bytes(self.programs);
         let mut page = text::Page::new(out);
         writer::put_header(&mut page, self.programs, image::rule(self.fresh));
         let middle = writer::put_ends(&mut page, first, self.image, self.n, self.mask);
-        writer::put_ends(&mut page, middle, self.fresh, self.m, all);
+        writer::put_ends(&mut page, middle, self.fresh, self.m, self.all);
         writer::put_bodies(&mut page, self.image, self.n, self.mask);
-        writer::put_bodies(&mut page, self.fresh, self.m, all);
+        writer::put_bodies(&mut page, self.fresh, self.m, self.all);
         page.end()
     }
 }

@@ -8,27 +8,23 @@ pub put_ends-requires : goal.put_ends-requires
 put_ends-requires c =
     let n = c.new-page.ensures in
     let b = begun c.requires.0 n.same n.front c.requires.1 c.put_header.ensures c.rule.ensures in
-    rw c.all-all.ensures (c.requires.0.new, new_ends_room b c.head_bytes-first.ensures c.put_ends-middle.ensures)
+    (c.requires.0.new, new_ends_room b c.head_bytes-first.ensures c.put_ends-middle.ensures)
 
 pub put_bodies-requires : goal.put_bodies-requires
 put_bodies-requires c =
     let n = c.new-page.ensures in
     let b = begun c.requires.0 n.same n.front c.requires.1 c.put_header.ensures c.rule.ensures in
-    let f = rw c.all-all.ensures at c.put_ends.ensures in
-    (c.requires.0.old, old_bytes_room b c.head_bytes-first.ensures c.put_ends-middle.ensures f)
+    (c.requires.0.old, old_bytes_room b c.head_bytes-first.ensures c.put_ends-middle.ensures c.put_ends.ensures)
 
 pub put_bodies-requires-2 : goal.put_bodies-requires-2
 put_bodies-requires-2 c =
     let n = c.new-page.ensures in
     let b = begun c.requires.0 n.same n.front c.requires.1 c.put_header.ensures c.rule.ensures in
-    let f = rw c.all-all.ensures at c.put_ends.ensures in
-    rw c.all-all.ensures (c.requires.0.new, new_bytes_room b c.head_bytes-first.ensures c.put_ends-middle.ensures f c.put_bodies.ensures)
+    (c.requires.0.new, new_bytes_room b c.head_bytes-first.ensures c.put_ends-middle.ensures c.put_ends.ensures c.put_bodies.ensures)
 
 pub returns : goal.returns
 returns c =
     let n = c.new-page.ensures in
     let b = begun c.requires.0 n.same n.front c.requires.1 c.put_header.ensures c.rule.ensures in
-    let f = rw c.all-all.ensures at c.put_ends.ensures in
-    let y = rw c.all-all.ensures at c.put_bodies-2.ensures in
-    let w = all_put b c.head_bytes-first.ensures c.put_ends-middle.ensures f c.put_bodies.ensures y in
+    let w = all_put b c.head_bytes-first.ensures c.put_ends-middle.ensures c.put_ends.ensures c.put_bodies.ensures c.put_bodies-2.ensures in
     wrote_page (page_done n.same n.front b.room w (grind (arith, w.same_reference)) c.end.ensures)
