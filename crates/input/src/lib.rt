@@ -21,34 +21,32 @@ pub const LONGEST: usize = COUNT_BYTES + CELL_BYTES * image::Image::CELLS + imag
 // The same where there are guards before the image.
 pub const LONGEST_GUARDED: usize = LONGEST + CELL_BYTES * guard::ENDS * image::Image::CELLS;
 
-// Reads once, behind the bytes that are there, and answers how many came: 0 at the input's end, and where the read fails, which it tells in the program's name.
-fn read_on(reader: &mut impl Read, program: &[u8], input: &mut [u8], there: usize) -> usize
-    requires { there ≤ length input.old }
-    ensures { (there + result ≤ length input.old) × (length input.new ≡ length input.old) }
+// Reads until what is lent is full or nothing more comes, and answers how many bytes came. A read that fails is told, and ends it.
+pub fn read_full<F: FnOnce()>(reader: &mut impl Read, room: &mut [u8], failed: F) -> usize
+    requires { F.IsAlwaysCallable failed }
+    ensures { IsPrefixLen result room.new }
 {
-    match reader.read(&mut input[there..]) {
-        Ok(got) => got,
-        Err(_) => {
-            output::complain(program, b"standard input cannot be read");
-            0
+    let mut there = 0;
+    while there < room.len() {
+        match reader.read(&mut room[there..]) {
+            Ok(0) => break,
+            Ok(more) => there += more,
+            Err(_) => {
+                failed();
+                return there;
+            }
         }
     }
+    there
 }
 
-// Reads until what is lent is full or nothing more comes, and answers how many bytes came.
+// Standard input, into what is lent.
 pub fn read_input(rt: &impl Input, program: &[u8], input: &mut [u8]) -> usize
     ensures { IsPrefixLen result input.new }
 {
-    let mut reader = rt.reader();
-    let mut there = 0;
-    while there < input.len() {
-        let more = read_on(&mut reader, program, input, there);
-        if more == 0 {
-            break;
-        }
-        there += more;
-    }
-    there
+    read_full(&mut rt.reader(), input, || {
+        output::complain(program, b"standard input cannot be read")
+    })
 }
 
 // T, where the prefix is good: the input has the bytes that it needs, and T is within 1 to 256.
