@@ -3,7 +3,7 @@
 // it (ask 2).
 #![tactic(auto)]
 
-ghost use Rattle.std.specs.Prelude.{◌≡◌, ◌≤◌, ◌<◌, length};
+ghost use Rattle.std.specs.Prelude.{◌≡◌, ◌≤◌, length};
 ghost use Rattle.text.specs.Writing.{PageSays};
 ghost use Rattle.text.specs.Paper.{Put, Fits};
 ghost use Rattle.image.specs.Limits.{max_programs, max_cells};
