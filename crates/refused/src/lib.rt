@@ -78,14 +78,12 @@ pub fn put_where_at(page: &mut Page, bad: BadInstruction, line: usize, byte: u8)
 }
 
 // The place in an image, nothing where its refusal has no place.
+#[tactic(auto, unfolding(crate::specs::Where::said_of, crate::specs::Where::image_where))]
 pub fn image_where(image: &[u8], out: &mut [u8]) -> usize
     requires { most_where ≤ length out.old }
     ensures { PageSays (image_where image.now) out.old result out.new }
 {
-    let Err(refusal) = image::image_refusal(image) else {
-        return 0;
-    };
-    let ImageRefusal::Instruction(bad) = refusal else {
+    let Err(ImageRefusal::Instruction(bad)) = image::image_refusal(image) else {
         return 0;
     };
     let program = image::part_of(image, bad.program as usize);
