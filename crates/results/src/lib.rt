@@ -2,14 +2,14 @@
 // a buffer.
 #![tactic(auto)]
 
-ghost use Rattle.std.specs.Prelude.{◌≡◌, ◌≤◌, ◌<◌, length};
+ghost use Rattle.std.specs.Prelude.{◌≡◌, ◌≤◌, length};
 ghost use Rattle.text.specs.Paper.{Put, Fits};
 ghost use Rattle.text.specs.Filled.{texts};
 ghost use Rattle.image.specs.Limits.{max_cells};
 ghost use Rattle.image.specs.Image.{count_of};
 ghost use Rattle.area.specs.Checks.{Measured, HasSlot};
 ghost use Rattle.results.specs.Listing.{rule_in_force, first_line, word_of, program_line, program_lines};
-ghost use Rattle.results.specs.Listing.{order_entry, order_line, cell_line, cell_lines, listing_with, listing, most_listing};
+ghost use Rattle.results.specs.Listing.{order_entry, order_line, cell_lines, listing_with, listing};
 
 use area::Batch;
 use text::Page;
@@ -29,13 +29,6 @@ pub const BYTES: usize = FIRST_BYTES
     + image::Image::PROGRAMS * PROGRAM_BYTES
     + ORDER_BYTES
     + image::Image::CELLS * CELL_BYTES;
-
-// Room for every listing.
-pub fn room() -> [u8; BYTES]
-    ensures { most_listing ≡ length result }
-{
-    [0; BYTES]
-}
 
 // The rule in force.
 fn rule_in_force(image: &[u8]) -> u32
