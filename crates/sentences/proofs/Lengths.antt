@@ -107,19 +107,10 @@ pub guard_fault_short : (k place : ℕ) (store : Store) (low high : ℕ) → Sma
     → length (guard_fault k place store low high) ≤ longest_reason
 unfolding guard_fault guard_fault_line not_admitted
 guard_fault_short k place store low high h p c v l g =
-    let line : List ℕ = filled (ascii "# faulted guard at #\n") (k ∷ place ∷ []) in
-    let value : List ℕ = then_signed (ascii "  Its instruction #, counted from 0, stores ") (place ∷ []) store.value in
-    let least : List ℕ = then_signed (ascii " to cell #, whose guard asks for at least ") (store.cell ∷ []) low in
-    let most : List ℕ = then_signed (ascii " and at most ") [] high in
-    let rest : List ℕ = ascii ".\n  It stores nothing, reserves nothing and is not carried.\n" in
-    omega (
+    simp length-append (omega (
       arith,
-      length-append line (value ++ least ++ most ++ rest),
-      length-append (value ++ least ++ most) rest,
-      length-append (value ++ least) most,
-      length-append value least,
       filled_short (ascii "# faulted guard at #\n") (k ∷ place ∷ []) (h, (p, tt)),
       then_signed_short (ascii "  Its instruction #, counted from 0, stores ") (place ∷ []) store.value (p, tt) v,
       then_signed_short (ascii " to cell #, whose guard asks for at least ") (store.cell ∷ []) low (c, tt) l,
       then_signed_short (ascii " and at most ") [] high tt g,
-    )
+    ))

@@ -1,5 +1,5 @@
 -- Laws of writing on a page. Assumes nothing.
-use mathlib.Core.Path.{◌≡◌, ◌∙◌, sym, refl, ap}
+use mathlib.Core.Path.{◌≡◌, ◌∙◌, sym, refl}
 use mathlib.Core.List.{List, [], ◌++◌, append_assoc, append-nil}
 use Prim.Native.Nat.{ℕ, ◌<◌}
 use native.Mathlib.Omega.{arith}
@@ -16,6 +16,9 @@ put_none p = grind (arith, common_steps)
 
 pub put_more : {p q r : Page} {w x : List ℕ} → Put p w q → Put q x r → Put p (w ++ x) r
 put_more h k = grind (arith, common_steps)
+
+pub put_room : {p q : Page} {w x : List ℕ} → Fits p (w ++ x) → Put p w q → Fits q x
+put_room room h = grind (arith, common_steps)
 
 -- there is one outcome only
 pub put_same : {p q r : Page} {w : List ℕ} → Put p w q → Put p w r → ◌≡◌ {A = List ℕ × ℕ} (q.out.now, q.at) (r.out.now, r.at)

@@ -61,25 +61,33 @@ unfolding value_from all_digits
 read_end w k v h l = let e : v ≡ capped v = omega arith in rw (drop_of_length-le w h) (ap Ok e)
 
 module _ (w : List ℕ) (k v : ℕ) (h : k < length w) where
-  -- what one byte gives
+  abbrev pub byte : ℕ
+  byte = get_or w k 0
+
+  -- the number with byte k behind it, and what one byte gives
+  abbrev pub more : ℕ
+  more = 10 * v + (byte - digit 0)
+
   abbrev pub next : Result ℕ Misread
-  next = cond (is_digit (get_or w k 0)) (Ok (capped (10 * v + (get_or w k 0 - digit 0)))) (Err NoNumber)
+  next = cond (is_digit byte) (Ok (capped more)) (Err NoNumber)
+
+  -- what the bytes from k on give
+  abbrev whole : (d : Bool) → Result ℕ Misread
+  whole d = cond (d && all_digits (drop (suc k) w)) (Ok (capped (value_from more (drop (suc k) w)))) (Err NoNumber)
 
   pub read_next : (u : ℕ) → Ok u ≡ next → (u ≤ over) × (read u (drop (k + 1) w) ≡ read v (drop k w))
   unfolding value_from all_digits
-  read_next u e = rw (drop-cons w k 0 h, add-one k) (go (is_digit (get_or w k 0)) e)
+  read_next u e = rw (drop-cons w k 0 h, add-one k) (go (is_digit byte) e)
     where
-      go : (d : Bool) → Ok u ≡ cond d (Ok (capped (10 * v + (get_or w k 0 - digit 0)))) (Err NoNumber) → (u ≤ over)
-          × (read u (drop (suc k) w) ≡ cond (d && all_digits (drop (suc k) w)) (Ok (capped (value_from (10 * v + (get_or w k 0 - digit 0)) (drop (suc k) w)))) (Err NoNumber))
-      go true e = let f : u ≡ capped (10 * v + (get_or w k 0 - digit 0)) = cc in (omega (arith, f), rw (f, capped_from (10 * v + (get_or w k 0 - digit 0)) (drop (suc k) w)))
+      go : (d : Bool) → Ok u ≡ cond d (Ok (capped more)) (Err NoNumber) → (u ≤ over) × (read u (drop (suc k) w) ≡ whole d)
+      go true e = let f : u ≡ capped more = cc in (omega (arith, f), rw (f, capped_from more (drop (suc k) w)))
       go false e = absurd cc
 
   pub read_none : (e : Misread) → Err e ≡ next → Err e ≡ read v (drop k w)
   unfolding value_from all_digits
-  read_none e f = rw (drop-cons w k 0 h) (go (is_digit (get_or w k 0)) f)
+  read_none e f = rw (drop-cons w k 0 h) (go (is_digit byte) f)
     where
-      go : (d : Bool) → Err e ≡ cond d (Ok (capped (10 * v + (get_or w k 0 - digit 0)))) (Err NoNumber)
-          → Err e ≡ cond (d && all_digits (drop (suc k) w)) (Ok (capped (value_from (10 * v + (get_or w k 0 - digit 0)) (drop (suc k) w)))) (Err NoNumber)
+      go : (d : Bool) → Err e ≡ cond d (Ok (capped more)) (Err NoNumber) → Err e ≡ whole d
       go true f = absurd cc
       go false f = f
 

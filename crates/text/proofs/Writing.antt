@@ -68,7 +68,8 @@ pub page_says : {page out out' : List ℕ} {r : ℕ} → Wrote out 0 page out' r
 page_says {page} {out} {out'} {r} w =
     let e : out' ≡ page ++ drop (length page) out = w.bytes ∙ pasted_front out page in
     let n : r ≡ length page = omega (arith, w.next) in
-    let l : length page ≤ length out = omega (arith, w.long, ap length e, length-append page (drop (length page) out), length-drop (length page) out) in
+    let l : length page ≤ length out =
+    omega (arith, w.long, ap length e, length-append page (drop (length page) out), length-drop (length page) out) in
     record {
       answer = n;
       fits = omega (arith, w.long);

@@ -70,7 +70,8 @@ unfolding ends
 ends_one start p = append-nil (number (start + length p))
 
 -- the ends of ps and then those of qs
-pub ended_both : {p q r : Page} {start next end : ℕ} {ps qs : List (List ℕ)} → Ended p start ps q next → Ended q next qs r end → Ended p start (ps ++ qs) r end
+pub ended_both : {p q r : Page} {start next end : ℕ} {ps qs : List (List ℕ)} → Ended p start ps q next → Ended q next qs r end
+    → Ended p start (ps ++ qs) r end
 ended_both {start = start} {ps = ps} {qs = qs} h k = record {
   put = rw (ends_append start ps qs, ← h.end_is) (put_more h.put k.put);
   end_is = rw (length_joined ps qs) (omega (arith, h.end_is, k.end_is));
@@ -138,7 +139,8 @@ module _ (test : ℕ → Bool) (image : List ℕ) where
 
   -- a turn of the loop that writes ends, and of the one that writes bytes
   module _ {i n : ℕ} (low : i < n) {p q : Page} where
-    pub end_room : {start end : ℕ} → Ended p start (picked test image i) q end → EndRoom p start (picked test image n) → EndRoom q end (pick test image i)
+    pub end_room : {start end : ℕ} → Ended p start (picked test image i) q end → EndRoom p start (picked test image n)
+        → EndRoom q end (pick test image i)
     end_room {start} {end} h room =
         let f = picked_fit low in
         record {
