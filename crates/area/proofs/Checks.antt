@@ -15,7 +15,7 @@ use Rattle.image.specs.declared.refusals.Refusal.TheVariants as refusal
 use Rattle.image.specs.Refusals.{passed}
 use Rattle.image.specs.Image.{count_of, refusal_of, image_checks}
 use Rattle.image.proofs.Laws.{accepted, few_programs_lem}
-use Rattle.image.proofs.Refusing.{goes_on, none_fails, none_after, first_passes, given_passed, passed_given}
+use Rattle.image.proofs.Refusing.{goes_on, none_fails, none_after, first_passes, given_passed, passed_given, checking}
 use Rattle.guard.specs.Guards.{guard_words, pairs_for}
 use Rattle.slot.specs.declared.ListKind.{ListKind}
 use Rattle.slot.specs.declared.ListKind.TheVariants.{Reads, Stores}
@@ -227,3 +227,10 @@ module _ (image t a : List ℕ) (c : Checked image t a) where
 
   pub program_slotted : (k : ℕ) → k < count_of image → Slotted (length t) k a
   program_slotted k l = slotted (length t) k a (checked_passed.slots k l) (program_lies k l)
+
+-- how the calls go that check: check by check, and what those before have shown
+pub ruleset room_by_check = (checking, few_cells)
+
+pub ruleset open_by_check = (checking, few)
+
+pub ruleset words_by_check = (checking, room_measured, measured, checked)

@@ -1,7 +1,7 @@
 -- The loops over a slot's lists: what has been passed is done, as the list says it. Assumes nothing.
 use Prim.Native.Nat.{ℕ, suc, ◌+◌, ◌-◌, ◌≤◌, ◌<◌}
 use mathlib.Core.Path.{◌≡◌, refl, sym, ◌∙◌}
-use mathlib.Core.Bool.{Bool}
+use mathlib.Core.Bool.{Bool, true}
 use mathlib.Core.List.{List, [], ◌∷◌, ◌++◌}
 use native.Mathlib.Omega.{arith}
 use lib.ListN.{length, get_or, set, take, drop}
@@ -32,11 +32,12 @@ pub reserve_more : (marks at i k : ℕ) (a : List ℕ) → at + i < length a
     (lower (get_or (reserve marks (words at i a) k a) (marks + get_or a (at + i) 0) 0) (mark_of k))
 reserve_more marks at i k a lies =
     let e : i + 1 ≡ suc i = omega arith in
-    rw (e, words_snoc at i a lies) (reserve_snoc marks (words at i a) (get_or a (at + i) 0) k a)
+    rw (e, words_snoc at i a lies) (reserve_snoc _ (words at i a) _ _ _)
 
 -- ---- a loop that stores
 
-store_snoc : (cs vs : List ℕ) (c v : ℕ) (t : List ℕ) → length cs ≡ length vs → store_all (cs ++ (c ∷ [])) (vs ++ (v ∷ [])) t ≡ set (store_all cs vs t) c v
+store_snoc : (cs vs : List ℕ) (c v : ℕ) (t : List ℕ) → length cs ≡ length vs
+    → store_all (cs ++ (c ∷ [])) (vs ++ (v ∷ [])) t ≡ set (store_all cs vs t) c v
 unfolding store_all
 store_snoc [] [] c v t e = refl
 store_snoc [] (y ∷ vs) c v t e = absurd (omega arith)
@@ -52,9 +53,10 @@ pub store_more : (cells values i : ℕ) (a t : List ℕ) → cells + i < length 
     → store_all (words cells (i + 1) a) (words values (i + 1) a) t
     ≡ set (store_all (words cells i a) (words values i a) t) (get_or a (cells + i) 0) (get_or a (values + i) 0)
 store_more cells values i a t l m =
-    let same : length (words cells i a) ≡ length (words values i a) = words_length cells i a (omega arith) ∙ sym (words_length values i a (omega arith)) in
+    let same : length (words cells i a) ≡ length (words values i a) =
+    words_length cells i a (omega arith) ∙ sym (words_length values i a (omega arith)) in
     let e : i + 1 ≡ suc i = omega arith in
-    rw (e, words_snoc cells i a l, words_snoc values i a m) (store_snoc (words cells i a) (words values i a) (get_or a (cells + i) 0) (get_or a (values + i) 0) t same)
+    rw (e, words_snoc cells i a l, words_snoc values i a m) (store_snoc (words cells i a) (words values i a) _ _ _ same)
 
 -- ---- the words of a list, as the code lends them
 
@@ -71,6 +73,13 @@ module _ (at count : ℕ) (a : List ℕ) where
 
   -- all of them pass a test
   pub all_lent : at + count ≤ length a → (test : ℕ → Bool) → list_all test (words at count a) ≡ every count (λ i. test (get_or a (at + i) 0))
-  all_lent lies test =
-      same_test (λ e. every_from count _ (λ i l. rw (words_at at count a i l) at (and_at (list_all test) test refl (λ x xs. refl) (words at count a) i 0 (omega (arith, words_length at count a lies)) e)))
-      (λ e. and_from_places (list_all test) test refl (λ x xs. refl) (words at count a) 0 (λ i l. let h : i < count = omega (arith, words_length at count a lies) in rw (words_at at count a i h) (every_at count _ e i h)))
+  all_lent lies test = same_test (λ e. every_from count _ (λ i l. rw (words_at at count a i l) at (each e i l))) (λ e. all (every_at count _ e))
+    where
+      full : length (words at count a) ≡ count
+      full = words_length at count a lies
+
+      each : list_all test (words at count a) ≡ true → (i : ℕ) → i < count → test (get_or (words at count a) i 0) ≡ true
+      each e i l = and_at (list_all test) test refl (λ x xs. refl) _ i 0 (omega (arith, full)) e
+
+      all : ((i : ℕ) → i < count → test (get_or a (at + i) 0) ≡ true) → list_all test (words at count a) ≡ true
+      all f = and_from_places (list_all test) test refl (λ x xs. refl) _ 0 (λ i l. let h : i < count = omega (arith, full) in rw (words_at at count a i h) (f i h))

@@ -319,7 +319,7 @@ fn words_good(area: &[u32], cells: usize, n: usize) -> bool
 }
 
 // Checks 5, 14 and 6, for n programs.
-#[tactic(auto, using(image::proofs::Refusing::checking, crate::proofs::Checks::few_cells), unfolding(crate::specs::Checks::room_refusal, crate::specs::Checks::size_is))]
+#[tactic(auto, using(crate::proofs::Checks::room_by_check), unfolding(crate::specs::Checks::room_refusal, crate::specs::Checks::size_is))]
 fn room_refusal(n: usize, table: &[u32], guards: &[u32], area: &[u32]) -> Result<(), Refusal>
     requires { n ≤ max_programs }
     ensures { result ≡ room_refusal n table.now guards.now area.now }
@@ -337,7 +337,7 @@ fn room_refusal(n: usize, table: &[u32], guards: &[u32], area: &[u32]) -> Result
 }
 
 // Checks 1 to 5, 14, 6. The caller makes 1 to 4 first and hands over what they said, so that their stack does not come on top of this one's.
-#[tactic(auto, using(image::proofs::Refusing::checking, crate::proofs::Checks::few), unfolding(crate::specs::Checks::open_refusal))]
+#[tactic(auto, using(crate::proofs::Checks::open_by_check), unfolding(crate::specs::Checks::open_refusal))]
 pub fn open_refusal(
     checked: Result<(), ImageRefusal>,
     image: &[u8],
@@ -353,7 +353,7 @@ pub fn open_refusal(
 }
 
 // Checks 1 to 5, 14, 6, 7, after the same four.
-#[tactic(auto, using(image::proofs::Refusing::checking, crate::proofs::Checks::room_measured), unfolding(crate::specs::Checks::call_refusal))]
+#[tactic(auto, using(crate::proofs::Checks::words_by_check), unfolding(crate::specs::Checks::call_refusal))]
 pub fn call_refusal(
     checked: Result<(), ImageRefusal>,
     image: &[u8],
@@ -372,7 +372,7 @@ pub fn call_refusal(
 }
 
 // The same, and 9 as the listed order and the next image make it.
-#[tactic(auto, using(image::proofs::Refusing::checking, crate::proofs::Checks::measured, crate::proofs::Checks::checked), unfolding(crate::specs::Checks::ended_refusal))]
+#[tactic(auto, using(crate::proofs::Checks::words_by_check), unfolding(crate::specs::Checks::ended_refusal))]
 pub fn ended_refusal(
     image: &[u8],
     table: &[u32],

@@ -4,14 +4,15 @@ use Prim.Native.Nat.{ℕ}
 use mathlib.Core.Path.{◌≡◌, refl}
 use mathlib.Core.List.{List, [], ◌∷◌, ◌++◌, map}
 use lib.ListN.{take, set, replicate}
-use Rattle.image.specs.declared.Refusal.{Refusal}
-use Rattle.image.specs.Refusals.{refusing_at, refusing, Counted, no_count, counted}
+use Rattle.std.specs.Prelude.{Ok, Err}
+use Rattle.image.specs.declared.refusals.Refusal.TheVariants as refusal
+use Rattle.image.specs.declared.refusals.RefusalNumbers.{RefusalNumbers}
+use Rattle.image.specs.Refusals.{refusing_at, refusing, none, Counted, numbers_of_count}
 use Rattle.image.specs.Assembler as assembler
 use Rattle.image.specs.Assembler.{program, joined, image, store, reject, instruction}
 use Rattle.guard.specs.Guards.{full_for}
 use Rattle.slot.specs.Log.{empty, layout}
-use Rattle.carry.specs.declared.Next.TheVariants.{Refused, Length}
-use Rattle.carry.specs.Next.{next_answer, next_out, numbers_of_next, NextSays}
+use Rattle.carry.specs.Next.{next_answer, next_out, NextSays}
 use Rattle.carry.specs.Opened.{opened}
 
 -- ---- how a case is written down
@@ -38,13 +39,13 @@ area states = 0 ∷ 0 ∷ joined (map (λ s. layout s 0 empty) states)
 
 -- the numbers that the call returns, refusal and length, and the output that it leaves
 abbrev called : (image table area fresh out : List ℕ) → Counted × List ℕ
-called image t a fresh out = (numbers_of_next (next_answer image t (full_for t) a fresh out), next_out image t (full_for t) a fresh out)
+called image t a fresh out = (numbers_of_count (next_answer image t (full_for t) a fresh out), next_out image t (full_for t) a fresh out)
 
 abbrev done : ℕ → List ℕ → Counted × List ℕ
-done bytes out = (counted bytes, out)
+done bytes out = (record { refusal = none; count = bytes }, out)
 
-abbrev refused_with : Refusal → List ℕ → Counted × List ℕ
-refused_with refusal out = (no_count refusal, out)
+abbrev refused_with : RefusalNumbers → List ℕ → Counted × List ℕ
+refused_with refusal out = (record { refusal = refusal; count = 0 }, out)
 
 abbrev refused : ℕ → List ℕ → Counted × List ℕ
 refused number = refused_with (refusing number)
@@ -121,8 +122,8 @@ unfolding opened
 sizes_29_28_27 = refl
 
 -- what the call's contract says of all this
-next_says : NextSays batch (5 ∷ []) (1 ∷ 0 ∷ []) (area (4 ∷ 5 ∷ 5 ∷ [])) (image 1 (four ∷ [])) (nines 29) (Length 28) (image 1 (two ∷ three ∷ four ∷ []) ++ (9 ∷ []))
-    × NextSays batch (5 ∷ []) (1 ∷ 0 ∷ []) (area (4 ∷ 5 ∷ 5 ∷ [])) (image 1 (four ∷ [])) (nines 27) (Refused (refusing 10)) (nines 27)
+next_says : NextSays batch (5 ∷ []) (1 ∷ 0 ∷ []) (area (4 ∷ 5 ∷ 5 ∷ [])) (image 1 (four ∷ [])) (nines 29) (Ok 28) (image 1 (two ∷ three ∷ four ∷ []) ++ (9 ∷ []))
+    × NextSays batch (5 ∷ []) (1 ∷ 0 ∷ []) (area (4 ∷ 5 ∷ 5 ∷ [])) (image 1 (four ∷ [])) (nines 27) (Err refusal.TooShort) (nines 27)
 unfolding opened
 next_says = (record { answer = refl; bytes = refl }, record { answer = refl; bytes = refl })
 
@@ -214,7 +215,7 @@ unfolding opened
 row_order = refl
 
 -- 14 after 5, before 6: guards of a word too many, where the area has a word too many and all the rest is broken too
-guards_too_long : NextSays batch (5 ∷ []) (1 ∷ 0 ∷ 0 ∷ []) (overmarked ++ (0 ∷ [])) fresh_1 (9 ∷ []) (Refused (refusing 14)) (9 ∷ [])
-    × NextSays batch [] (1 ∷ 0 ∷ 0 ∷ []) (overmarked ++ (0 ∷ [])) fresh_1 (9 ∷ []) (Refused (refusing 5)) (9 ∷ [])
+guards_too_long : NextSays batch (5 ∷ []) (1 ∷ 0 ∷ 0 ∷ []) (overmarked ++ (0 ∷ [])) fresh_1 (9 ∷ []) (Err refusal.Guards) (9 ∷ [])
+    × NextSays batch [] (1 ∷ 0 ∷ 0 ∷ []) (overmarked ++ (0 ∷ [])) fresh_1 (9 ∷ []) (Err refusal.TableSize) (9 ∷ [])
 unfolding opened
 guards_too_long = (record { answer = refl; bytes = refl }, record { answer = refl; bytes = refl })

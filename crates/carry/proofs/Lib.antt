@@ -2,5 +2,6 @@ pub mod Cases
 pub mod Checks
 pub mod Nexts
 pub mod Sources
-pub mod Chosen
+pub mod Pieces
+pub mod Choosing
 pub mod Unique

@@ -9,6 +9,7 @@ use lib.ListN.{length, length-append, get_or-append}
 use Rattle.base.specs.Words.{count}
 use Rattle.base.proofs.Counts.{count_below}
 use Rattle.image.specs.Limits.{max_programs}
+use Rattle.image.specs.Refusals.{passed}
 use Rattle.image.specs.Image.{count_of, rule_byte, part_of, refusal_of}
 use Rattle.image.proofs.Laws.{accepted}
 use Rattle.writer.specs.Picked.{all_of}
@@ -22,7 +23,7 @@ use Rattle.carry.proofs.Checks.{NextShows, next_shows}
 
 -- ---- the next image
 
-module _ (image t g a fresh out : List ℕ) (none : (next_refusal image t g a fresh out).number ≡ 0) where
+module _ (image t g a fresh out : List ℕ) (none : next_refusal image t g a fresh out ≡ passed) where
   shown : NextShows image t g a fresh out
   shown = next_shows image t g a fresh out none
 
@@ -48,7 +49,7 @@ module _ (image t g a fresh out : List ℕ) (none : (next_refusal image t g a fr
       (picked_fine (λ k. true) fresh (accepted fresh shown.good_fresh) (count_of fresh) (omega arith))
 
   -- it is itself a good image
-  pub next_good : (refusal_of (next_image (length t) image a fresh)).number ≡ 0
+  pub next_good : refusal_of (next_image (length t) image a fresh) ≡ passed
   unfolding next_image
   next_good = image_good (rule_byte fresh) programs few fine (small_rule fresh (accepted fresh shown.good_fresh))
 

@@ -1,8 +1,8 @@
--- The image of two sources: how many programs it has, how long it is, and that of the carried programs and the fresh image's it is the next image.
--- Assumes nothing.
+-- The image of two sources: how many programs it has, how long it is, of which pieces it is; and that of the carried programs and the fresh image's it
+-- is the next image. Assumes nothing.
 use mathlib.Core.Path.{◌≡◌, refl, ap, ◌∙◌}
 use mathlib.Core.Bool.{true}
-use mathlib.Core.List.{List, ◌++◌}
+use mathlib.Core.List.{List, ◌++◌, append_assoc}
 use Prim.Native.Nat.{ℕ, ◌+◌, ◌<◌}
 use native.Mathlib.Omega.{arith}
 use lib.ListN.{length, length-append}
@@ -12,39 +12,43 @@ use Rattle.base.proofs.Counts.{count_all, count_ext}
 use Rattle.base.proofs.Masks.{mask_has}
 use Rattle.image.specs.Limits.{head_bytes}
 use Rattle.image.specs.Image.{count_of, rule_byte}
-use Rattle.writer.specs.Joined.{joined, image_of}
+use Rattle.writer.specs.Joined.{joined, ends, image_of}
 use Rattle.writer.specs.Picked.{picked, all_of}
-use Rattle.writer.specs.Writing.{Source}
+use Rattle.writer.specs.Writing.{header}
 use Rattle.writer.proofs.Programs.{length_joined, length_image, picked_count, picked_ext, picked_short}
+use Rattle.writer.proofs.Whole.{image_both}
 use Rattle.slot.specs.declared.Group.TheVariants.{Carried}
 use Rattle.area.specs.Layout.{in_group}
+use Rattle.carry.specs.declared.Chosen.{Chosen}
 use Rattle.carry.specs.Next.{carried_count, carried_of, next_programs, next_image}
-use Rattle.carry.specs.Sources.{Sources, image_from}
+use Rattle.carry.specs.Sources.{Sources, old_programs, new_programs, image_from}
 
-module _ {image : List ℕ} {n mask : ℕ} {fresh : List ℕ} {m programs : ℕ} (s : Sources image n mask fresh m programs) {all : ℕ} (all-is : all ≡ mask_of (λ k. true) m) where
-  abbrev old : List (List ℕ)
-  old = picked (has_bit mask) image n
-
-  abbrev new : List (List ℕ)
-  new = picked (has_bit all) fresh m
-
-  pub all_source : Source fresh m all
-  all_source = rw all-is s.new
-
-  pub from_image : {rule : ℕ} → rule ≡ rule_byte fresh → image_of rule (old ++ new) ≡ image_from image n mask fresh m
-  unfolding image_from
-  from_image e = rw (e, all-is)
-
-  pub from_count : programs ≡ length (old ++ new)
+module _ {c : Chosen} (s : Sources c) where
+  from_count : c.programs ≡ length (old_programs c ++ new_programs c)
   from_count =
-      let new_count = picked_count (has_bit all) fresh m ∙ count_all (has_bit all) m (λ k l. rw all-is (mask_has (λ k. true) m k l)) in
-      omega (arith, s.counted, length-append old new, picked_count (has_bit mask) image n, new_count)
+      omega (arith, s.counted, length-append (old_programs c) (new_programs c), picked_count (has_bit c.mask) c.image.now c.n, picked_count (has_bit c.all) c.fresh.now c.m)
 
-  pub from_length : length (image_from image n mask fresh m) ≡ head_bytes programs + length (joined old) + length (joined new)
-  from_length = omega (arith, ap length (from_image refl), from_count, length_image (rule_byte fresh) (old ++ new), length_joined old new)
+  pub from_length : length (image_from c) ≡ head_bytes c.programs + length (joined (old_programs c)) + length (joined (new_programs c))
+  unfolding image_from
+  from_length =
+      omega (arith, from_count, length_image (rule_byte c.fresh.now) (old_programs c ++ new_programs c), length_joined (old_programs c) (new_programs c))
 
-  pub from_small : length (image_from image n mask fresh m) < 65536
-  from_small = omega (arith, from_length, s.few, s.old.few, s.new.few, picked_short s.old n (omega arith), picked_short all_source m (omega arith))
+  pub from_small : length (image_from c) < 65536
+  from_small = omega (arith, from_length, s.few, s.old.few, s.new.few, picked_short s.old c.n (omega arith), picked_short s.new c.m (omega arith))
+
+  -- the pieces that it is written in: behind the header stand the ends of each, and then their bytes
+  abbrev pub bytes_behind : List ℕ
+  bytes_behind = joined (old_programs c) ++ joined (new_programs c)
+
+  abbrev pub new_ends : List ℕ
+  new_ends = ends (head_bytes c.programs + length (joined (old_programs c))) (new_programs c)
+
+  abbrev pub ends_behind : List ℕ
+  ends_behind = ends (head_bytes c.programs) (old_programs c) ++ (new_ends ++ bytes_behind)
+
+  pub from_pieces : image_from c ≡ header c.programs (rule_byte c.fresh.now) ++ ends_behind
+  unfolding image_from
+  from_pieces = rw from_count (image_both (rule_byte c.fresh.now) (old_programs c) (new_programs c) ∙ simp append_assoc)
 
 -- the mask is that of the carried programs
 module _ (T : ℕ) (a image : List ℕ) {n mask : ℕ} (n_is : n ≡ count_of image) (mask_is : mask ≡ mask_of (in_group Carried T a) n) where
@@ -52,12 +56,13 @@ module _ (T : ℕ) (a image : List ℕ) {n mask : ℕ} (n_is : n ≡ count_of im
   unfolding carried_count
   carried_counted = rw (mask_is, ← n_is) (count_ext _ _ n (mask_has (in_group Carried T a) n))
 
-  carried_programs : picked (has_bit mask) image n ≡ carried_of T image a
+  pub carried_programs : picked (has_bit mask) image n ≡ carried_of T image a
   carried_programs = rw (mask_is, ← n_is) (picked_ext _ _ image n (mask_has (in_group Carried T a) n))
 
-  pub from_is : (fresh : List ℕ) (m : ℕ) → m ≡ count_of fresh → image_from image n mask fresh m ≡ next_image T image a fresh
-  unfolding image_from next_image next_programs
-  from_is fresh m m_is = rw carried_programs (ap (λ (qs : List (List ℕ)). image_of (rule_byte fresh) (carried_of T image a ++ qs)) all_programs)
-    where
-      all_programs : picked (has_bit (mask_of (λ k. true) m)) fresh m ≡ all_of fresh
-      all_programs = rw (← m_is) (picked_ext _ _ fresh m (mask_has (λ k. true) m))
+-- and of the fresh image they are all
+module _ (fresh : List ℕ) {m all : ℕ} (m_is : m ≡ count_of fresh) (all_is : all ≡ mask_of (λ k. true) m) where
+  pub fresh_counted : count (has_bit all) m ≡ count_of fresh
+  fresh_counted = rw all_is (count_all _ m (mask_has (λ k. true) m)) ∙ m_is
+
+  pub fresh_programs : picked (has_bit all) fresh m ≡ all_of fresh
+  fresh_programs = rw (all_is, ← m_is) (picked_ext _ _ fresh m (mask_has (λ k. true) m))

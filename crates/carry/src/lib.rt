@@ -3,47 +3,94 @@
 
 ghost use Rattle.std.specs.Prelude.{◌≡◌, ◌≤◌, length};
 ghost use Rattle.text.specs.Writing.{Wrote};
+ghost use Rattle.image.specs.Refusals.{passed};
+ghost use Rattle.image.specs.Image.{refusal_of};
+ghost use Rattle.area.specs.Checks.{Checked};
 ghost use Rattle.carry.specs.Next.{lent_refusal, size_refusal, NextSays};
-ghost use Rattle.carry.specs.Sources.{Sources, image_from};
 
 use image::Refusal;
 
-// The next image's length, for check 10.
-fn next_length(image: &[u8], n: usize, mask: u64, fresh: &[u8], m: usize, programs: usize) -> usize
-    requires { Sources image.now n mask fresh.now m programs }
-    ensures { result ≡ length (image_from image.now n mask fresh.now m) }
-{
-    let old = writer::taken_bytes(image, n, mask);
-    let new = writer::taken_bytes(fresh, m, masks::all(m));
-    image::head_bytes(programs) + old + new
-}
-
-// The next image, where all checks have been made.
-pub fn write_next(
-    image: &[u8],
+// What goes into the next image: of an image's n programs those that a mask has, and the same of the fresh one's; and how many they are together.
+#[derive(Clone, Copy)]
+pub struct Chosen<'a> {
+    image: &'a [u8],
     n: usize,
     mask: u64,
-    fresh: &[u8],
+    fresh: &'a [u8],
     m: usize,
+    all: u64,
     programs: usize,
-    out: &mut [u8],
-) -> usize
-    requires { Sources image.now n mask fresh.now m programs × (length (image_from image.now n mask fresh.now m) ≤ length out.old) }
-    ensures { Wrote out.old 0 (image_from image.now n mask fresh.now m) out.new result }
-{
-    let all = masks::all(m);
-    let to = writer::put_header(out, programs, image::rule(fresh));
-    let start = writer::Place {
-        to,
-        end: image::head_bytes(programs),
-    };
-    let middle = writer::put_ends(out, start, image, n, mask);
-    let done = writer::put_ends(out, middle, fresh, m, all);
-    let at = writer::put_bodies(out, done.to, image, n, mask);
-    writer::put_bodies(out, at, fresh, m, all)
+}
+
+impl<'a> Chosen<'a> {
+    ghost use Rattle.carry.specs.Sources.{Choice, Sources, image_from};
+
+    // The carried programs and all of the fresh image's, where the checks of all that is lent have been made.
+    #[tactic(auto, using(area::proofs::Checks::few))]
+    pub fn of(image: &'a [u8], table: &[u32], area: &[u32], fresh: &'a [u8]) -> Chosen<'a>
+        requires { Checked image.now table.now area.now × (refusal_of fresh.now ≡ passed) }
+        ensures { Choice image.now (length table.now) area.now fresh.now result }
+    {
+        let n = image::count(image);
+        let m = image::count(fresh);
+        let mask = area::members(area, table.len(), n, slot::Group::Carried);
+        let programs = masks::count(mask, n) + m;
+        Chosen {
+            image,
+            n,
+            mask,
+            fresh,
+            m,
+            all: masks::all(m),
+            programs,
+        }
+    }
+
+    // The next image's length, for check 10.
+    #[tactic(auto, using(crate::proofs::Sources::from_length))]
+    fn length(&self) -> usize
+        requires { Sources self.now }
+        ensures { result ≡ length (image_from self.now) }
+    {
+        let old = writer::taken_bytes(self.image, self.n, self.mask);
+        let new = writer::taken_bytes(self.fresh, self.m, self.all);
+        image::head_bytes(self.programs) + old + new
+    }
+
+    // Checks 11, 10.
+    #[tactic(auto, using(image::proofs::Refusing::checking), unfolding(crate::specs::Next::size_refusal))]
+    fn size_refusal(&self, out: &[u8]) -> Result<(), Refusal>
+        requires { Sources self.now }
+        ensures { result ≡ size_refusal self.now.programs (image_from self.now) out.now }
+    {
+        if image::Image::PROGRAMS < self.programs {
+            return Err(Refusal::TooMany);
+        }
+        if out.len() < self.length() {
+            return Err(Refusal::TooShort);
+        }
+        Ok(())
+    }
+
+    // The next image, where all checks have been made.
+    #[tactic(auto, using(crate::proofs::Sources::from_length, crate::proofs::Sources::from_small, crate::proofs::Sources::from_pieces, std::proofs::lemmas::Grind::common_steps, text::proofs::Pages::put_more))]
+    pub fn write(&self, out: &mut [u8]) -> usize
+        requires { Sources self.now × (length (image_from self.now) ≤ length out.old) }
+        ensures { Wrote out.old 0 (image_from self.now) out.new result }
+    {
+        let first = image::head_bytes(self.programs);
+        let mut page = text::Page::new(out);
+        writer::put_header(&mut page, self.programs, image::rule(self.fresh));
+        let middle = writer::put_ends(&mut page, first, self.image, self.n, self.mask);
+        writer::put_ends(&mut page, middle, self.fresh, self.m, self.all);
+        writer::put_bodies(&mut page, self.image, self.n, self.mask);
+        writer::put_bodies(&mut page, self.fresh, self.m, self.all);
+        page.end()
+    }
 }
 
 // Checks 1 to 7, 9, 21 to 24.
+#[tactic(auto, using(image::proofs::Refusing::checking), unfolding(crate::specs::Next::lent_refusal))]
 fn lent_refusal(
     image: &[u8],
     table: &[u32],
@@ -55,28 +102,6 @@ fn lent_refusal(
 {
     area::ended_refusal(image, table, guards, area)?;
     image::fresh_refusal(fresh)
-}
-
-// Checks 11, 10.
-fn size_refusal(
-    image: &[u8],
-    n: usize,
-    mask: u64,
-    fresh: &[u8],
-    m: usize,
-    programs: usize,
-    out: &[u8],
-) -> Result<(), Refusal>
-    requires { Sources image.now n mask fresh.now m programs }
-    ensures { result ≡ size_refusal programs (image_from image.now n mask fresh.now m) out.now }
-{
-    if image::Image::PROGRAMS < programs {
-        return Err(Refusal::TooMany);
-    }
-    if out.len() < next_length(image, n, mask, fresh, m, programs) {
-        return Err(Refusal::TooShort);
-    }
-    Ok(())
 }
 
 // The next image: its length, and its bytes at the front of the output.
@@ -91,10 +116,7 @@ pub fn next_image(
     ensures { NextSays image.now table.now guards.now area.now fresh.now out.old result out.new }
 {
     lent_refusal(image, table, guards, area, fresh)?;
-    let n = image::count(image);
-    let m = image::count(fresh);
-    let mask = area::members(area, table.len(), n, slot::Group::Carried);
-    let programs = masks::count(mask, n) + m;
-    size_refusal(image, n, mask, fresh, m, programs, out)?;
-    Ok(write_next(image, n, mask, fresh, m, programs, out))
+    let chosen = Chosen::of(image, table, area, fresh);
+    chosen.size_refusal(out)?;
+    Ok(chosen.write(out))
 }

@@ -1,10 +1,12 @@
--- The laws of signed numbers and guards: the code's comparison is the signed one, and the list that is made for the full range has it. Assumes nothing.
-use Rattle.std.proofs.Common.{int_lt, ◌≡◌, ℕ, suc, ◌+◌, ◌-◌, ◌*◌, ◌%◌, ◌^◌, ◌<◌, ◌≤◌, true, false, not, ltb, List, pos, negsuc, ◌∙◌, arith, le-ltb, lt-ltb, eq-eqb, ne_eqb}
+-- The laws of signed numbers and guards: the code's comparison is the signed one, and the list that is made for the full range has it.
+-- Assumes nothing.
+use Rattle.std.proofs.Common.{◌≡◌, ℕ, suc, ◌+◌, ◌-◌, ◌*◌, ◌%◌, ◌^◌, ◌<◌, ◌≤◌, false, ltb, pos, negsuc, int_lt, ◌∙◌, arith}
+use Rattle.std.proofs.Common.{le-ltb, lt-ltb, eq-eqb, ne_eqb}
 use Rattle.std.proofs.lemmas.Int.{ints}
 use Rattle.std.proofs.lemmas.Bool.Decides.{nat_tests}
 use Rattle.base.proofs.Tables.{tabulate_at}
 use Rattle.guard.specs.Signed.{signed, lowest, highest}
-use Rattle.guard.specs.Guards.{low_of, high_of, admits, Full, full_end, full_range}
+use Rattle.guard.specs.Guards.{Full, full_end, full_range}
 
 -- ---- a word read as a signed number
 
@@ -49,14 +51,3 @@ full_range_lem n T h c l =
       low_is = tabulate_at full_end n (2 * c) (omega arith) ∙ rw (eq-eqb (2 * c % 2) 0 (omega arith));
       high_is = tabulate_at full_end n (2 * c + 1) (omega arith) ∙ rw (ne_eqb ((2 * c + 1) % 2) 0 (λ z. omega arith));
     }
-
--- ---- the cases that the code tells apart
-
-module _ (g : List ℕ) (c v : ℕ) where
-  pub too_low : int_lt (signed v) (signed (low_of g c)) ≡ true → admits g c v ≡ false
-  unfolding admits
-  too_low e = rw e
-
-  pub high_enough : int_lt (signed v) (signed (low_of g c)) ≡ false → admits g c v ≡ not (int_lt (signed (high_of g c)) (signed v))
-  unfolding admits
-  high_enough e = rw e

@@ -17,8 +17,8 @@ low_of g c = slice_index g (2 * c)
 abbrev pub high_of : List ℕ → ℕ → ℕ
 high_of g c = slice_index g (2 * c + 1)
 
--- "A store whose value, read as a signed 32-bit number, lies below low or above high is now a fault": any other is admitted, so "low above high closes
--- the cell"
+-- "A store whose value, read as a signed 32-bit number, lies below low or above high is now a fault": any other is admitted, so "low above high
+-- closes the cell"
 unfoldable pub admits : List ℕ → (c v : ℕ) → Bool
 admits g c v = not (int_lt (signed v) (signed (low_of g c)) || int_lt (signed (high_of g c)) (signed v))
 

@@ -13,7 +13,7 @@ pub const HIGHEST: u32 = 2147483647;
 // How many words a cell has in a guard list: its low end and its high one.
 pub const ENDS: usize = 2;
 
-// Whether a word is less than another, both read as signed numbers. With 2^31 added to both, modulo 2^32, the order of signed numbers is that of words.
+// Whether a word is less than another, both read as signed numbers: with 2^31 added to both, modulo 2^32, their order is that of words.
 #[tactic(auto, using(crate::proofs::Laws::signed_order))]
 pub fn less(x: u32, y: u32) -> bool
     ensures { result ≡ int_lt (signed x) (signed y) }

@@ -1,8 +1,10 @@
 -- What holds of every instruction's ask: it goes forward, and what it writes fits 32 bits. Assumes nothing.
-use Rattle.std.proofs.Common.{◌≡◌, ℕ, zero, suc, ◌+◌, ◌*◌, ◌^◌, ◌<◌, Bool, true, false, eqb, ltb, List, [], ◌∷◌, ◌++◌, length, get_or, set, ◌∙◌, arith, length-set}
+use Rattle.std.proofs.Common.{◌≡◌, ℕ, zero, suc, ◌+◌, ◌*◌, ◌^◌, ◌<◌, Bool, true, false, eqb, ltb, List, [], ◌∷◌, ◌++◌, length, get_or, set, ◌∙◌}
+use Rattle.std.proofs.Common.{arith, length-set}
 use Rattle.image.specs.Limits.{registers, instruction_bytes}
 use Rattle.machine.specs.declared.Machine.{Machine}
-use Rattle.machine.specs.Asks.{Ask, halt, move, fetch, put, reg, skipped, added, subtracted, op_end, op_set, op_load, op_store, op_add, op_sub, op_skip_less, op_skip_equal, op_reject, operations, byte_here, ask_of, ask_at}
+use Rattle.machine.specs.Asks.{Ask, halt, move, fetch, put, reg, skipped, added, subtracted, op_end, op_set, op_load, op_store, op_add, op_sub}
+use Rattle.machine.specs.Asks.{op_skip_less, op_skip_equal, op_reject, operations, byte_here, ask_of, ask_at}
 
 -- what holds of each of a list holds of the one at every place, where it holds of the one past the end
 abbrev Each : (Ask → Type 0) → List Ask → Type 0

@@ -1,5 +1,5 @@
--- Document 01, "Instructions" and the slot of "The work area", tried by computation on whole runs, sentence by sentence. A case compares all that came
--- of a run: answer, log, path and the values loaded; or the slot that it leaves, word by word. Assumes nothing.
+-- Document 01, "Instructions" and the slot of "The work area", tried by computation on whole runs, sentence by sentence. A case compares all that
+-- came of a run: answer, log, path and the values loaded; or the slot that it leaves, word by word. Assumes nothing.
 use Rattle.std.proofs.Common.{◌≡◌, ℕ, zero, suc, List, [], ◌∷◌, ◌++◌, map, replicate, refl}
 use Rattle.image.specs.Assembler.{Instruction, end, set, load, store, sub, skipless, skipequal, reject, program}
 use Rattle.guard.specs.Guards.{full_for}
@@ -145,7 +145,9 @@ load_the_last_number = refl
 states : map state_of_run (Finished ∷ Rejected 7 ∷ Faulted fault.Load 0 ∷ Faulted fault.Store 31 ∷ []) ≡ 1 ∷ 2 ∷ 3 ∷ 3 ∷ []
 states = refl
 
-details : map detail_of_run (Finished ∷ Rejected 0 ∷ Rejected 255 ∷ Faulted fault.Load 0 ∷ Faulted fault.Load 31 ∷ Faulted fault.Store 0 ∷ Faulted fault.Store 31 ∷ []) ≡ 0 ∷ 0 ∷ 255 ∷ 256 ∷ 287 ∷ 512 ∷ 543 ∷ []
+details : map detail_of_run
+    (Finished ∷ Rejected 0 ∷ Rejected 255 ∷ Faulted fault.Load 0 ∷ Faulted fault.Load 31 ∷ Faulted fault.Store 0 ∷ Faulted fault.Store 31 ∷ [])
+    ≡ 0 ∷ 0 ∷ 255 ∷ 256 ∷ 287 ∷ 512 ∷ 543 ∷ []
 details = refl
 
 -- the whole slot of a run that finished (case 13: "cell 0 = 2, cell 2 = 3, store through both: reads 0, 2; stores 3")

@@ -1,6 +1,7 @@
 -- A run on its way, the invariant of `take_turns`: what is left of the run, from this machine and this slot, ends as the whole run does.
 -- Assumes nothing.
-use Rattle.std.proofs.Common.{◌≡◌, ℕ, zero, suc, ◌+◌, ◌*◌, ◌<◌, ◌≤◌, Some, None, List, length, get_or, replicate, sym, refl, ap, ◌∙◌, arith, le-ltb, lt-ltb}
+use Rattle.std.proofs.Common.{◌≡◌, ℕ, zero, suc, ◌+◌, ◌*◌, ◌<◌, ◌≤◌, Some, None, List, length, get_or, replicate, sym, refl, ap, ◌∙◌, arith, le-ltb}
+use Rattle.std.proofs.Common.{lt-ltb}
 use Rattle.image.specs.Limits.{instruction_bytes}
 use Rattle.image.specs.Instruction.{byte_of, instructions_of}
 use Rattle.slot.specs.States.{waiting}
@@ -14,12 +15,11 @@ use Rattle.machine.specs.declared.Turned.{Turned}
 use Rattle.machine.specs.declared.Run.{Run}
 use Rattle.machine.specs.declared.Run.TheVariants.{Finished}
 use Rattle.machine.specs.Asks.{Ask, move, start, ask_of, ask_at}
-use Rattle.machine.specs.Runs.{Effect, stop, next, Judge, perform, Outcome, ended, since, seen, follow, run_from, run_by, log_after, turned}
+use Rattle.machine.specs.Runs.{Effect, stop, next, Judge, perform, ended, since, seen, follow, run_from, run_by, log_after, turned}
 use Rattle.machine.specs.Runs.{Runnable, Ready, Did, Ends}
 use Rattle.machine.proofs.Named.{first_byte}
 use Rattle.machine.proofs.Asked.{ask_forward}
 use Rattle.machine.proofs.Laws.{by_ask, turn_fits}
-use Rattle.machine.proofs.Turns.{did_as}
 
 -- ---- a turn's answer tells the step
 
@@ -32,7 +32,8 @@ answer_next m (stop r l) e = cc
 answer_next m (next m' l) e = refl
 
 -- a turn that goes on goes forward
-turn_forward : (may : Judge) (p t : List ℕ) (m : Machine) (l : Log) (m' : Machine) (l' : Log) → perform may t m l (ask_at p m) ≡ next m' l' → m.place < m'.place
+turn_forward : (may : Judge) (p t : List ℕ) (m : Machine) (l : Log) (m' : Machine) (l' : Log) → perform may t m l (ask_at p m) ≡ next m' l'
+    → m.place < m'.place
 turn_forward may p t m l m' l' =
     by_ask may t m l (λ s. s ≡ next m' l' → m.place < m'.place) (ask_at p m) (λ r e. cc)
     (λ n q e. let r : n ≡ m' = cc in rw (← r) (moved n q)) (λ a c h e. onward _ _ e) (λ c v q h e. onward _ _ e)
@@ -67,7 +68,8 @@ pub record Going (may : Judge) (p t : List ℕ) (m : Machine) (slot : List ℕ) 
   pub same_log : (run_by may p t).log ≡ (run_from may fuel p t m log).log
   pub same_last : (run_by may p t).last ≡ (run_from may fuel p t m log).last
 
-pub going_start : {may : Judge} {p t : List ℕ} → Runnable p → {m : Machine} {slot : List ℕ} → m ≡ start → slot ≡ replicate slot_words 0 → Going may p t m slot
+pub going_start : {may : Judge} {p t : List ℕ} → Runnable p → {m : Machine} {slot : List ℕ} → m ≡ start → slot ≡ replicate slot_words 0
+    → Going may p t m slot
 unfolding run_by
 going_start {p} {t} runs at e =
     record {
@@ -117,9 +119,9 @@ module _ {may : Judge} {p t : List ℕ} {m : Machine} {slot : List ℕ} (runs : 
   going_end h =
       let e = end_from g.fuel g.log h in
       record {
-        answered = sym (g.same_answer ∙ ap (λ (o : Outcome). o.answer) e);
-        at_the_end = sym (g.same_last ∙ ap (λ (o : Outcome). o.last) e);
-        logged = g.is ∙ ap (layout waiting 0) (sym (g.same_log ∙ ap (λ (o : Outcome). o.log) e));
+        answered = cc;
+        at_the_end = cc;
+        logged = cc;
       }
 
   -- one turn of the definition
@@ -145,15 +147,15 @@ module _ {may : Judge} {p t : List ℕ} {m : Machine} {slot : List ℕ} (runs : 
             n,
             record {
               one_less = e;
-              left_answer = g.same_answer ∙ ap (λ (o : Outcome). o.answer) q;
-              left_log = g.same_log ∙ ap (λ (o : Outcome). o.log) q;
-              left_last = g.same_last ∙ ap (λ (o : Outcome). o.last) q;
+              left_answer = cc;
+              left_log = cc;
+              left_last = cc;
             },
           )
 
   module _ {r : Turned} {slot' : List ℕ} (u : m.place < instructions_of p) (d : Did m (perform may t m (log_of slot) (ask_read p m)) r slot') where
     did_is : Did m (perform may t m g.log (ask_at p m)) r slot'
-    did_is = rw log_is at (did_as may t (log_of slot) (ask_read_lem p m) d)
+    did_is = rw (log_is, ← ask_read_lem p m) at d
 
     abbrev taken : Effect
     taken = perform may t m g.log (ask_at p m)
@@ -161,21 +163,17 @@ module _ {may : Judge} {p t : List ℕ} {m : Machine} {slot : List ℕ} (runs : 
     pub going_stop : {x : Run} → r.stopped ≡ Some x → Ends (run_by may p t) (record { run = x; machine = r.machine }) slot'
     unfolding follow
     going_stop {x} e =
-        let q : taken ≡ stop x (log_after taken) = answer_stop m taken x (sym (ap (λ (y : Turned). y.stopped) did_is.answered) ∙ e) in
+        let q : taken ≡ stop x (log_after taken) = answer_stop m taken x (cc did_is.answered) in
+        let told : r ≡ turned m (stop x (log_after taken)) = did_is.answered ∙ ap (turned m) q in
         let w = (turn_left u).1 in
-        let n : ℕ = (turn_left u).0 in
         record {
-          answered = sym (w.left_answer ∙ ap (λ (s : Effect). (follow m (run_from may n p t) s).answer) q);
-          at_the_end =
-              ap (λ (y : Turned). y.machine) did_is.answered ∙ (ap (λ (s : Effect). (turned m s).machine) q
-              ∙ sym (w.left_last ∙ ap (λ (s : Effect). (follow m (run_from may n p t) s).last) q));
-          logged = did_is.logged ∙ ap (layout waiting 0) (sym (w.left_log ∙ ap (λ (s : Effect). (follow m (run_from may n p t) s).log) q));
+          answered = cc;
+          at_the_end = cc told;
+          logged = cc did_is.logged;
         }
 
     step_next : r.stopped ≡ None → taken ≡ next r.machine (log_after taken)
-    step_next e =
-        answer_next m taken (sym (ap (λ (y : Turned). y.stopped) did_is.answered) ∙ e)
-        ∙ ap (λ (y : Turned). next y.machine (log_after taken)) (sym did_is.answered)
+    step_next e = cc (did_is.answered, answer_next m taken (cc did_is.answered))
 
     pub going_forward : r.stopped ≡ None → m.place < r.machine.place
     going_forward e = turn_forward may p t m g.log r.machine (log_after taken) (step_next e)
@@ -195,7 +193,7 @@ module _ {may : Judge} {p t : List ℕ} {m : Machine} {slot : List ℕ} (runs : 
           budget = omega (arith, g.budget, w.one_less);
           room = f.1;
           fitting = f.0;
-          same_answer = w.left_answer ∙ ap (λ (s : Effect). (follow m (run_from may n p t) s).answer) (step_next e);
-          same_log = w.left_log ∙ ap (λ (s : Effect). (follow m (run_from may n p t) s).log) (step_next e);
-          same_last = w.left_last ∙ ap (λ (s : Effect). (follow m (run_from may n p t) s).last) (step_next e);
+          same_answer = cc (step_next e);
+          same_log = cc (step_next e);
+          same_last = cc (step_next e);
         }

@@ -66,7 +66,8 @@ unfolding opened
 only_state_and_detail = refl
 
 -- every store is judged, also one that a later store of the same program would put right
-each_store : run (put 0 46 ++ put 0 45) ∷ run (put 0 45 ++ put 0 46) ∷ [] ≡ ends (Faulted fault.Guard 2) [] [] ∷ ends (Faulted fault.Guard 5) (0 ∷ []) (45 ∷ []) ∷ []
+each_store : run (put 0 46 ++ put 0 45) ∷ run (put 0 45 ++ put 0 46) ∷ []
+    ≡ ends (Faulted fault.Guard 2) [] [] ∷ ends (Faulted fault.Guard 5) (0 ∷ []) (45 ∷ []) ∷ []
 unfolding opened
 each_store = refl
 
@@ -116,7 +117,8 @@ before = refl
 
 -- ---- which value met which ends
 
--- the store at which a run stopped, of a fault of kind 3 and of one of kind 2; of a run that finished, past its last instruction, nothing that means anything
+-- the store at which a run stopped, of a fault of kind 3 and of one of kind 2; of a run that finished, past its last instruction, nothing that means
+-- anything
 abbrev stopped_at : List Instruction → Store
 stopped_at instructions = store_at (program instructions) (outcome instructions).last
 

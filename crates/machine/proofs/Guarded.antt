@@ -8,14 +8,16 @@ use Rattle.machine.specs.declared.Machine.{Machine}
 use Rattle.machine.specs.declared.FaultKind.TheVariants as fault
 use Rattle.machine.specs.declared.Run.TheVariants.{Finished, Rejected, Faulted}
 use Rattle.machine.specs.Asks.{Ask, halt, move, fetch, put, start, reg, written, passed, byte_here, ask_at}
-use Rattle.machine.specs.Runs.{Effect, stop, next, Judge, outside, unfit, perform, ended, follow, run_from, run_by, run_of, free_run, unguarded, store_at}
+use Rattle.machine.specs.Runs.{Effect, stop, next, Judge, outside, unfit, perform, ended, follow, run_from, run_by, run_of, free_run, unguarded}
+use Rattle.machine.specs.Runs.{store_at}
 use Rattle.machine.proofs.Asked.{by_operation}
 use Rattle.machine.proofs.Laws.{turn_of}
 use Rattle.machine.proofs.Values.{judges_agree}
 
 -- ---- "A batch with the full range for every cell is the batch of before": of one run
 
-pub full_is_free : (p t g : List ℕ) → ((i : ℕ) → get_or p i 0 < 256) → ((i : ℕ) → get_or t i 0 < 2 ^ 32) → Full (length t) g → run_of p t g ≡ free_run p t
+pub full_is_free : (p t g : List ℕ) → ((i : ℕ) → get_or p i 0 < 256) → ((i : ℕ) → get_or t i 0 < 2 ^ 32) → Full (length t) g
+    → run_of p t g ≡ free_run p t
 full_is_free p t g bytes cells full =
     judges_agree (admits g) unguarded p t bytes cells (λ c v within small. full_admits g c v (full c within) small)
 
@@ -54,7 +56,9 @@ module _ (may : Judge) (p t : List ℕ) (at : ℕ) where
   turn_met m l u (move m') e n l' s = cc
   turn_met m l u (fetch a c) e n l' s = go (ltb c (length t)) s
     where
-      go : (b : Bool) → cond b (next (written m a (loaded l c (get_or t c 0))) (with_read l c)) (stop (Faulted fault.Load m.place) l) ≡ stop (Faulted fault.Guard at) l'
+      go : (b : Bool)
+          → cond b (next (written m a (loaded l c (get_or t c 0))) (with_read l c)) (stop (Faulted fault.Load m.place) l)
+          ≡ stop (Faulted fault.Guard at) l'
           → Met may p t m at
       go true q = cc
       go false q = cc
@@ -81,7 +85,8 @@ module _ (may : Judge) (p t : List ℕ) (at : ℕ) where
   run_met zero m l e = cc
   run_met (suc n) m l e = go (ltb m.place (instructions_of p)) refl e (run_met n)
     where
-      after : m.place < instructions_of p → (s : Effect) → perform may t m l (ask_at p m) ≡ s → (follow m (run_from may n p t) s).answer ≡ Faulted fault.Guard at
+      after : m.place < instructions_of p → (s : Effect) → perform may t m l (ask_at p m) ≡ s
+          → (follow m (run_from may n p t) s).answer ≡ Faulted fault.Guard at
           → ((m : Machine) (l : Log) → (run_from may n p t m l).answer ≡ Faulted fault.Guard at → Met may p t (run_from may n p t m l).last at)
           → Met may p t (follow m (run_from may n p t) s).last at
       after u (stop r l') q f ih = turn_met m l u (ask_at p m) refl (ask_plain p m) l' (rw f at q)

@@ -1,6 +1,7 @@
 -- The laws of a run, for everyone above: what it reads and stores, that its reads decide it, the slot that it leaves, and which programs can
 -- be run. `may` says which values may be stored to which cells: a guard list's judgement, or any other. Assumes nothing.
-use Rattle.std.proofs.Common.{◌≡◌, ℕ, zero, suc, ◌+◌, ◌<◌, ◌≤◌, Bool, true, false, cond, ltb, List, [], ◌∷◌, length, get_or, sym, refl, ◌∙◌, add-zero, arith, length-set, ltb-true}
+use Rattle.std.proofs.Common.{◌≡◌, ℕ, zero, suc, ◌+◌, ◌<◌, ◌≤◌, Bool, true, false, cond, ltb, List, [], ◌∷◌, length, get_or, sym, refl, ◌∙◌, add-zero}
+use Rattle.std.proofs.Common.{arith, length-set, ltb-true}
 use Rattle.base.specs.Words.{has}
 use Rattle.base.proofs.Numbers.{every_at}
 use Rattle.image.specs.Limits.{max_program_bytes}
@@ -128,11 +129,12 @@ run_fits may p t short =
 -- ---- a run depends only on the cells it reads
 
 -- what was read stays read to the end of the run
-run_keeps : (may : Judge) (n : ℕ) (p t : List ℕ) (m : Machine) (l : Log) (d : ℕ) → has d l.reads ≡ true → has d (run_from may n p t m l).log.reads ≡ true
+run_keeps : (may : Judge) (n : ℕ) (p t : List ℕ) (m : Machine) (l : Log) (d : ℕ) → has d l.reads ≡ true
+    → has d (run_from may n p t m l).log.reads ≡ true
 run_keeps may n p t m l d =
     run_log may p t (λ u l'. has d l.reads ≡ true → has d l'.reads ≡ true) (λ u l' h. h)
-    (λ u m' l' h e. by_ask may t m' l' (λ s. has d (log_after s).reads ≡ true) (ask_at p m') (λ r. h e) (λ m'' q. h e) (λ a c q. read_keeps l' c d (h e))
-    (λ c v q q'. store_keeps l' c v d (h e)))
+    (λ u m' l' h e. by_ask may t m' l' (λ s. has d (log_after s).reads ≡ true) (ask_at p m') (λ r. h e) (λ m'' q. h e)
+    (λ a c q. read_keeps l' c d (h e)) (λ c v q q'. store_keeps l' c v d (h e)))
     n 0 m l (λ e. e)
 
 module _ (may : Judge) (p t t' : List ℕ) (same : length t ≡ length t') where
@@ -147,7 +149,8 @@ module _ (may : Judge) (p t t' : List ℕ) (same : length t ≡ length t') where
   turn_same m l (move m') h = (refl, refl)
   turn_same m l (fetch a c) h = rw (← same) (go (ltb c (length t)) h)
     where
-      go : (b : Bool) → Agree (log_after (cond b (next (written m a (loaded l c (get_or t c 0))) (with_read l c)) (stop (Faulted fault.Load m.place) l))).reads
+      go : (b : Bool)
+          → Agree (log_after (cond b (next (written m a (loaded l c (get_or t c 0))) (with_read l c)) (stop (Faulted fault.Load m.place) l))).reads
           → (cond b (loaded l c (get_or t' c 0) ∷ []) [] ≡ cond b (loaded l c (get_or t c 0) ∷ []) [])
           × (cond b (next (written m a (loaded l c (get_or t' c 0))) (with_read l c)) (stop (Faulted fault.Load m.place) l)
           ≡ cond b (next (written m a (loaded l c (get_or t c 0))) (with_read l c)) (stop (Faulted fault.Load m.place) l))
@@ -180,8 +183,8 @@ module _ (may : Judge) (p t t' : List ℕ) (same : length t ≡ length t') where
 
 -- "If two tables of one length agree at every cell that the run on the first reads, the run on the second is the same: answer, reads, stores, path
 -- and loads", for rejected and faulted runs too, "with the same guards".
-pub reads_decide : (may : Judge) (p t t' : List ℕ) → length t ≡ length t' → ((c : ℕ) → has c (run_by may p t).log.reads ≡ true → get_or t c 0 ≡ get_or t' c 0)
-    → run_by may p t' ≡ run_by may p t
+pub reads_decide : (may : Judge) (p t t' : List ℕ) → length t ≡ length t'
+    → ((c : ℕ) → has c (run_by may p t).log.reads ≡ true → get_or t c 0 ≡ get_or t' c 0) → run_by may p t' ≡ run_by may p t
 unfolding run_by
 reads_decide may p t t' same agree = run_same may p t t' same (instructions_of p) start empty agree
 

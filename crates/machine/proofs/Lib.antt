@@ -3,7 +3,6 @@ pub mod Asked
 pub mod Laws
 pub mod Values
 pub mod Guarded
-pub mod Turns
 pub mod Going
 pub mod Ends
 pub mod Cases

@@ -35,7 +35,7 @@ module _ (a b c : ℕ) where
   good_named (suc (suc (suc (suc (suc zero))))) e = named_by 5 a b c _ _ (λ h k. refl) (λ h k. refl) e
   good_named (suc (suc (suc (suc (suc (suc zero)))))) e = named_by 6 a b c _ true (λ h k. refl) (λ h k. absurd (omega arith)) e
   good_named (suc (suc (suc (suc (suc (suc (suc zero))))))) e = named_by 7 a b c _ true (λ h k. refl) (λ h k. absurd (omega arith)) e
-  good_named (suc (suc (suc (suc (suc (suc (suc (suc o)))))))) e = none_named (suc (suc (suc (suc (suc (suc (suc (suc o)))))))) a b c (λ h k. omega arith)
+  good_named (suc (suc (suc (suc (suc (suc (suc (suc o)))))))) e = none_named _ a b c (λ h k. omega arith)
 
 -- byte 0 of an instruction stands where the instruction begins
 pub first_byte : (p : List ℕ) (i : ℕ) → get_or p (instruction_bytes * i) 0 ≡ byte_of p i 0

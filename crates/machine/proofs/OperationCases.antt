@@ -61,12 +61,14 @@ unfolding opened
 adds = refl
 
 -- 5, "sub: r[a] = r[b] − r[c], modulo 2^32": 20 − 10, 20 − 20, 10 − 20, 0 − 1 (case 12 of the bench sheet), 0 − 4294967295
-subs : asks (sub 7 1 0 ∷ sub 7 1 2 ∷ sub 7 0 1 ∷ sub 7 4 5 ∷ sub 7 4 3 ∷ []) ≡ gives 7 10 ∷ gives 7 0 ∷ gives 7 4294967286 ∷ gives 7 4294967295 ∷ gives 7 1 ∷ []
+subs : asks (sub 7 1 0 ∷ sub 7 1 2 ∷ sub 7 0 1 ∷ sub 7 4 5 ∷ sub 7 4 3 ∷ [])
+    ≡ gives 7 10 ∷ gives 7 0 ∷ gives 7 4294967286 ∷ gives 7 4294967295 ∷ gives 7 1 ∷ []
 unfolding opened
 subs = refl
 
 -- 6, "skipless: if r[a] < r[b], leaves out the next c instructions": 10 and 20, 20 and 20, 20 and 10, 10 and 4294967295, 4294967295 and 10
-skips_less : asks (skipless 0 1 3 ∷ skipless 1 2 3 ∷ skipless 1 0 3 ∷ skipless 0 3 3 ∷ skipless 3 0 3 ∷ []) ≡ goes 9 ∷ goes 6 ∷ goes 6 ∷ goes 9 ∷ goes 6 ∷ []
+skips_less : asks (skipless 0 1 3 ∷ skipless 1 2 3 ∷ skipless 1 0 3 ∷ skipless 0 3 3 ∷ skipless 3 0 3 ∷ [])
+    ≡ goes 9 ∷ goes 6 ∷ goes 6 ∷ goes 9 ∷ goes 6 ∷ []
 unfolding opened
 skips_less = refl
 

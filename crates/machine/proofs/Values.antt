@@ -1,5 +1,5 @@
--- Every value that a run has in a register, loads or stores fits 32 bits where the table's do; so guards that agree on words give the same run, and the full
--- range is document 01's run. Assumes nothing.
+-- Every value that a run has in a register, loads or stores fits 32 bits where the table's do; so guards that agree on words give the same run, and
+-- the full range is document 01's run. Assumes nothing.
 use Rattle.std.proofs.Common.{◌≡◌, ℕ, zero, suc, ◌^◌, ◌<◌, Bool, true, false, cond, ltb, List, [], ◌∷◌, length, get_or, refl, arith, ltb-true}
 use Rattle.image.specs.Limits.{registers}
 use Rattle.image.specs.Instruction.{instructions_of}
@@ -104,7 +104,9 @@ module _ (may : Judge) (p t : List ℕ) (bytes : Under 256 p) (cells : Under wor
 
   ends_small : Under word (run_by may p t).last.registers
   unfolding run_by
-  ends_small = (run_last may p t Fine (λ m l h. goes_on (perform may t m l (ask_at p m)) (turn_small m l h)) (instructions_of p) start empty fine_start).1.fine_registers
+  ends_small =
+      let on = λ (m : Machine) (l : Log) (h : Fine m l). goes_on (perform may t m l (ask_at p m)) (turn_small m l h) in
+      (run_last may p t Fine on (instructions_of p) start empty fine_start).1.fine_registers
 
 module _ (may : Judge) (p t : List ℕ) (bytes : (i : ℕ) → get_or p i 0 < 256) (cells : (i : ℕ) → get_or t i 0 < 2 ^ 32) where
   pub values_fit : (i : ℕ) → get_or (run_by may p t).log.values i 0 < 2 ^ 32
@@ -142,7 +144,8 @@ module _ (one other : Judge) (p t : List ℕ) (bytes : Under 256 p) (cells : Und
         after (perform one t m l (ask_at p m)) (turn_small one p t bytes cells m l h) (run_agrees n),
       )
     where
-      after : (s : Effect) → After one p t bytes cells s → ((m : Machine) (l : Log) → Fine one p t bytes cells m l → run_from one n p t m l ≡ run_from other n p t m l)
+      after : (s : Effect) → After one p t bytes cells s
+          → ((m : Machine) (l : Log) → Fine one p t bytes cells m l → run_from one n p t m l ≡ run_from other n p t m l)
           → follow m (run_from one n p t) s ≡ follow m (run_from other n p t) s
       after (stop r l) a ih = refl
       after (next m l) a ih = ih m l a

@@ -1,6 +1,7 @@
 -- Document 01, "Instructions": what each of the nine operations asks, row by row of its table. It goes by the machine alone, eight registers and the
 -- place; what becomes of it on a table is said in `Runs`. Assumes nothing.
-use Rattle.std.specs.Prelude.{ℕ, ◌+◌, ◌-◌, ◌*◌, ◌%◌, ◌^◌, Bool, true, false, List, [], ◌∷◌, replicate, ◌==◌, nat_lt, slice_index, slice_index_or, slice_set}
+use Rattle.std.specs.Prelude.{ℕ, ◌+◌, ◌-◌, ◌*◌, ◌%◌, ◌^◌, Bool, true, false, List, [], ◌∷◌, replicate, ◌==◌, nat_lt, slice_index, slice_index_or}
+use Rattle.std.specs.Prelude.{slice_set}
 use Rattle.image.specs.Limits.{registers}
 use Rattle.image.specs.Instruction.{byte_of}
 use Rattle.machine.specs.declared.Machine.{Machine}

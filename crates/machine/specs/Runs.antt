@@ -1,6 +1,7 @@
--- Document 01, "Instructions": the run of one program on a table, with guards (document 02, ask 5), how it ends, what it reads and stores, and the slot
--- that it leaves. Assumes nothing.
-use Rattle.std.specs.Prelude.{◌≡◌, ℕ, zero, suc, ◌+◌, ◌*◌, ◌%◌, ◌<◌, ◌≤◌, Bool, true, false, cond, Some, None, List, [], ◌∷◌, ◌++◌, length, replicate, nat_lt, slice_index}
+-- Document 01, "Instructions": the run of one program on a table, with guards (document 02, ask 5), how it ends, what it reads and stores, and the
+-- slot that it leaves. Assumes nothing.
+use Rattle.std.specs.Prelude.{◌≡◌, ℕ, zero, suc, ◌+◌, ◌*◌, ◌%◌, ◌<◌, ◌≤◌, Bool, true, false, cond, Some, None, List, [], ◌∷◌, ◌++◌, length, replicate}
+use Rattle.std.specs.Prelude.{nat_lt, slice_index}
 use Rattle.image.specs.Limits.{registers, instruction_bytes, max_instructions, max_program_bytes}
 use Rattle.image.specs.Instruction.{instructions_of, program_good}
 use Rattle.guard.specs.Guards.{guard_words, admits}
@@ -77,8 +78,8 @@ seen t l (put c v) = []
 
 -- ---- the run
 
--- How a run ended, all it read and stored on the way, and, for demand 3, the places visited and the values loaded, in order; and the machine at its end,
--- which has not moved on from an instruction that stopped the run.
+-- How a run ended, all it read and stored on the way, and, for demand 3, the places visited and the values loaded, in order; and the machine at its
+-- end, which has not moved on from an instruction that stopped the run.
 pub record Outcome : Type 0 where
   pub answer : Run
   pub log : Log

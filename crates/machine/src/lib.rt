@@ -221,16 +221,15 @@ impl Machine {
     {
         let c = self.register(b);
         let i = c as usize;
-        if i < table.len() {
-            match slot::stored_place(slot, c) {
-                Some(k) => self.written(a, slot[slot::VALUES + k]).goes(),
-                None => {
-                    slot::note_read(slot, c);
-                    self.written(a, table[i]).goes()
-                }
+        if i >= table.len() {
+            return self.faults(FaultKind::Load);
+        }
+        match slot::stored_place(slot, c) {
+            Some(k) => self.written(a, slot[slot::VALUES + k]).goes(),
+            None => {
+                slot::note_read(slot, c);
+                self.written(a, table[i]).goes()
             }
-        } else {
-            self.faults(FaultKind::Load)
         }
     }
 
@@ -242,16 +241,14 @@ impl Machine {
         let c = self.register(a);
         let v = self.register(b);
         let i = c as usize;
-        if i < table.len() {
-            if guard::admits(guards, i, v) {
-                slot::note_store(slot, c, v);
-                self.passed().goes()
-            } else {
-                self.faults(FaultKind::Guard)
-            }
-        } else {
-            self.faults(FaultKind::Store)
+        if i >= table.len() {
+            return self.faults(FaultKind::Store);
         }
+        if !guard::admits(guards, i, v) {
+            return self.faults(FaultKind::Guard);
+        }
+        slot::note_store(slot, c, v);
+        self.passed().goes()
     }
 
     // One turn: the instruction op, a, b, c.
@@ -383,8 +380,8 @@ pub fn run_program(program: &[u8], table: &[u32], guards: &[u32], slot: &mut [u3
     run
 }
 
-// The store at which a program's run stopped, where it did: the cell and the value that the instruction at its end names. It runs the program again, in a slot
-// that is lent for it.
+// The store at which a program's run stopped, where it did: the cell and the value that the instruction at its end names. It runs the program again,
+// in a slot that is lent for it.
 #[tactic(auto, using(crate::proofs::Laws::last_registers))]
 pub fn last_store(program: &[u8], table: &[u32], guards: &[u32], slot: &mut [u32]) -> Store
     requires { CanRun program.now table.now guards.now slot.old }

@@ -1,17 +1,21 @@
 -- No second result: an answer's numbers are told in one way only. Assumes nothing.
 use mathlib.Core.Path.{◌≡◌, sym, ◌∙◌}
 use Rattle.base.specs.Unique.{Unique}
+use Rattle.image.specs.Refusals.{Counted}
 use Rattle.steps.specs.Answers.{Numbers}
 use Rattle.causes.specs.Why.{WhyNumbers}
 use Rattle.numbers.specs.declared.StepNumbers.{StepNumbers}
 use Rattle.numbers.specs.declared.CauseNumbers.{CauseNumbers}
-use Rattle.numbers.specs.Numbers.{Tells, CauseTells}
+use Rattle.numbers.specs.declared.CountNumbers.{CountNumbers}
+use Rattle.numbers.specs.Numbers.{Tells, CauseTells, CountTells}
 use Rattle.numbers.proofs.of_gathered.Kinds as gathered_kinds
 use Rattle.numbers.proofs.of_gathered.Reads as gathered
 use Rattle.numbers.proofs.of_settled.Kinds as settled_kinds
 use Rattle.numbers.proofs.of_settled.Reads as settled
 use Rattle.numbers.proofs.of_why.Kinds as why_kinds
 use Rattle.numbers.proofs.of_why.Reads as why
+use Rattle.numbers.proofs.of_count.Kinds as count_kinds
+use Rattle.numbers.proofs.of_count.Reads as count
 
 pub told_once : (n : Numbers) (x y : StepNumbers) → Tells n x → Tells n y → x ≡ y
 told_once n x y p q =
@@ -40,3 +44,9 @@ cause_once n x y p q =
 
 pub of_why_unique : Unique {A = CauseNumbers} 0 why_kinds.ps why_kinds.r (λ κs x s. x) why.Post
 of_why_unique κs a x y s t p q = cause_once _ x y p q
+
+pub count_once : (n : Counted) (x y : CountNumbers) → CountTells n x → CountTells n y → x ≡ y
+count_once n x y p q = λ i. record { refusal = (p.refusal ∙ sym q.refusal) i; count = (p.count ∙ sym q.count) i }
+
+pub of_count_unique : Unique {A = CountNumbers} 0 count_kinds.ps count_kinds.r (λ κs x s. x) count.Post
+of_count_unique κs a x y s t p q = count_once _ x y p q

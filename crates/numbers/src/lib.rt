@@ -4,11 +4,12 @@
 ghost use Rattle.std.specs.Prelude.{◌<◌, ◌^◌};
 ghost use Rattle.image.specs.Refusals.{numbers_of_count};
 ghost use Rattle.steps.specs.Answers.{done_with, refused_by, numbers_of_gathered, numbers_of_settled};
-ghost use Rattle.causes.specs.Why.{numbers_for, numbers_of_why};
+ghost use Rattle.causes.specs.Why.{no_reason, numbers_for, numbers_of_why};
 ghost use Rattle.numbers.specs.Numbers.{Tells, CauseTells, CountTells};
 
-use causes::Why;
+use causes::{Cause, Why};
 use image::{Refusal, RefusalNumbers};
+use steps::Reason;
 
 // The refusal, or none with the slot's state and detail.
 #[repr(C)]
@@ -73,16 +74,31 @@ pub struct CauseNumbers {
     pub war_program: u32,
 }
 
-fn carried_for(reason: steps::Reason, cause: causes::Cause, war: causes::Cause) -> CauseNumbers
-    ensures { CauseTells (numbers_for reason cause war) result }
-{
-    CauseNumbers {
-        refusal: RefusalNumbers::NONE,
-        reason: steps::reason_number(reason),
-        cell: cause.cell,
-        program: cause.program,
-        war_cell: war.cell,
-        war_program: war.program,
+impl CauseNumbers {
+    fn refused(refusal: Refusal) -> CauseNumbers
+        ensures { CauseTells (no_reason refusal) result }
+    {
+        CauseNumbers {
+            refusal: RefusalNumbers::from(refusal),
+            reason: 0,
+            cell: 0,
+            program: 0,
+            war_cell: 0,
+            war_program: 0,
+        }
+    }
+
+    fn carried(reason: Reason, cause: Cause, war: Cause) -> CauseNumbers
+        ensures { CauseTells (numbers_for reason cause war) result }
+    {
+        CauseNumbers {
+            refusal: RefusalNumbers::NONE,
+            reason: steps::reason_number(reason),
+            cell: cause.cell,
+            program: cause.program,
+            war_cell: war.cell,
+            war_program: war.program,
+        }
     }
 }
 
@@ -90,22 +106,15 @@ fn carried_for(reason: steps::Reason, cause: causes::Cause, war: causes::Cause) 
 pub fn of_why(answer: Result<Why, Refusal>) -> CauseNumbers
     ensures { CauseTells (numbers_of_why answer) result }
 {
-    let none = causes::Cause {
+    let none = Cause {
         cell: 0,
         program: 0,
     };
     match answer {
-        Ok(Why::Waw(cause)) => carried_for(steps::Reason::Waw, cause, none),
-        Ok(Why::Raw(cause)) => carried_for(steps::Reason::Raw, cause, none),
-        Ok(Why::RawWithWar(raw, war)) => carried_for(steps::Reason::RawWithWar, raw, war),
-        Err(refusal) => CauseNumbers {
-            refusal: RefusalNumbers::from(refusal),
-            reason: 0,
-            cell: 0,
-            program: 0,
-            war_cell: 0,
-            war_program: 0,
-        },
+        Ok(Why::Waw(cause)) => CauseNumbers::carried(Reason::Waw, cause, none),
+        Ok(Why::Raw(cause)) => CauseNumbers::carried(Reason::Raw, cause, none),
+        Ok(Why::RawWithWar(raw, war)) => CauseNumbers::carried(Reason::RawWithWar, raw, war),
+        Err(refusal) => CauseNumbers::refused(refusal),
     }
 }
 

@@ -1,9 +1,9 @@
--- Document 01 tried by computation on the slot's definitions, sentence by sentence: what "Instructions" says of reads and stores, and the slot and the
--- states of "The work area". The numbers are literals. Assumes nothing.
-use Rattle.std.proofs.Common.{ℕ, zero, suc, true, false, List, [], ◌∷◌, ◌++◌, map, ◌≡◌, refl, replicate}
+-- Document 01 tried by computation on the slot's definitions, sentence by sentence: what "Instructions" says of reads and stores, and the slot and
+-- the states of "The work area". The numbers are literals. Assumes nothing.
+use Rattle.std.proofs.Common.{Some, None, ℕ, zero, suc, true, false, List, [], ◌∷◌, ◌++◌, map, ◌≡◌, refl, replicate}
 use Rattle.slot.specs.States.{waiting, gathered, rejected, faulted, committed, carried, last_state, is_end}
 use Rattle.slot.specs.Layout.{state_word, detail_word, read_count, store_count, list_words, first_read, first_store, first_value, slot_words}
-use Rattle.slot.specs.Log.{Log, empty, place_in, newest_in, loaded, with_read, with_store, layout, log_of}
+use Rattle.slot.specs.Log.{Log, empty, place_in, found_place, newest_in, loaded, with_read, with_store, layout, log_of}
 use Rattle.slot.specs.Opened.{opened}
 
 -- these reads, stored cells and values
@@ -60,6 +60,10 @@ newest = refl
 first_place : place_in 4 (4 ∷ 5 ∷ 4 ∷ []) ≡ 1
 unfolding opened
 first_place = refl
+
+-- the code says a place, or that there is none
+places : map found_place (0 ∷ 1 ∷ 32 ∷ []) ≡ None ∷ Some 0 ∷ Some 31 ∷ []
+places = refl
 
 -- among as many as a slot has, none twice: the newest, the oldest and one that is not there, each at its first place
 newest_of_32 : map (λ c. newest_in c (from 0 32)) (31 ∷ 0 ∷ 32 ∷ []) ≡ 32 ∷ 1 ∷ 0 ∷ []

@@ -1,5 +1,6 @@
 -- What each store of `note_read` and `note_store` does to a slot that holds a log. Assumes nothing.
-use Rattle.std.proofs.Common.{ℕ, suc, ◌+◌, ◌-◌, ◌≤◌, ◌<◌, ◌≡◌, refl, sym, ap, ◌∙◌, true, false, Option, Some, None, is_some, IfSome, List, [], ◌∷◌, ◌++◌, arith, length, get_or, set, replicate, length-append, length-set}
+use Rattle.std.proofs.Common.{ℕ, suc, ◌+◌, ◌-◌, ◌≤◌, ◌<◌, ◌≡◌, refl, sym, ap, ◌∙◌, true, false, Option, Some, None, is_some, IfSome, List, [], ◌∷◌}
+use Rattle.std.proofs.Common.{◌++◌, arith, length, get_or, set, replicate, length-append, length-set}
 use Rattle.std.proofs.lemmas.List.{length_push}
 use Rattle.base.specs.Words.{words}
 use Rattle.std.proofs.Math.Seq.{set_at, set-append_left, append_snoc}
@@ -7,7 +8,8 @@ use Rattle.base.proofs.Parts.{words_at, set_between}
 use Rattle.slot.specs.States.{waiting}
 use Rattle.slot.specs.Layout.{read_count, store_count, list_words, first_read, first_store, first_value}
 use Rattle.slot.specs.Log.{Log, cells_of, place_in, found_place, newest_in, once, loaded, with_read, with_store, pad, layout, log_of, Holds}
-use Rattle.slot.proofs.Places.{found_place_none, found_place_any, found_place_some, found_place_below, found, place_bound, one_place, once_new, once_old}
+use Rattle.slot.proofs.Places.{found_place_none, found_place_any, found_place_some, found_place_below, found, place_bound, one_place, once_new}
+use Rattle.slot.proofs.Places.{once_old}
 use Rattle.slot.specs.declared.ListKind.{ListKind}
 use Rattle.slot.specs.declared.ListKind.TheVariants.{Reads, Stores}
 use Rattle.slot.proofs.ListKinds.{each_kind}
@@ -128,8 +130,8 @@ module _ (s : List ℕ) (h : Holds s) where
       read_new none =
           let p : place_in c (log_of s).reads ≡ 0 = found_place_none _ r (read_found c r e) none in
           ap (λ (x : List ℕ). set (set x (first_read + get_or s read_count 0) c) read_count (get_or s read_count 0 + 1)) h.is
-          ∙ (push_read (log_of s) holds_sized c (first_read + get_or s read_count 0) (get_or s read_count 0 + 1) (omega (arith, reads_count, h.read_room))
-          (omega (arith, reads_count)) (omega (arith, reads_count))
+          ∙ (push_read (log_of s) holds_sized c (first_read + get_or s read_count 0) (get_or s read_count 0 + 1)
+          (omega (arith, reads_count, h.read_room)) (omega (arith, reads_count)) (omega (arith, reads_count))
           ∙ rw (read_is, once_new c (log_of s).reads p))
 
       pub read_old : is_some r ≡ true → s ≡ layout waiting 0 (with_read (log_of s) c)
@@ -143,9 +145,9 @@ module _ (s : List ℕ) (h : Holds s) where
   unfolding with_store
   store_new c v none =
       let e : place_in c (log_of s).cells ≡ 0 = found_place_none _ None none refl in
-      ap (λ (x : List ℕ). set (set (set x (first_store + get_or s store_count 0) c) (first_value + get_or s store_count 0) v) store_count (get_or s store_count 0 + 1))
-      h.is
-      ∙ (push_store (log_of s) holds_sized c v (first_store + get_or s store_count 0) (first_value + get_or s store_count 0) (get_or s store_count 0 + 1)
+      let n : ℕ = get_or s store_count 0 in
+      ap (λ (x : List ℕ). set (set (set x (first_store + n) c) (first_value + n) v) store_count (n + 1)) h.is
+      ∙ (push_store (log_of s) holds_sized c v (first_store + n) (first_value + n) (n + 1)
       (omega (arith, cells_count, h.store_room)) (omega (arith, cells_count)) (omega (arith, cells_count)) (omega (arith, cells_count))
       ∙ rw (once_new c (log_of s).cells e, e))
 

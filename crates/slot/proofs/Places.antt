@@ -1,10 +1,10 @@
 -- A cell's place in a list, and a list with the cell once. Assumes nothing.
-use Rattle.std.proofs.Common.{ℕ, zero, suc, ◌+◌, ◌-◌, ◌≤◌, ◌<◌, Bool, true, false, not, cond, ◌⊎◌, inl, inr, ◌≡◌, refl, sym, ap, ◌∙◌, Option, Some, IfSome, is_some, List, [], ◌∷◌, ◌++◌, add-one, arith, length, get_or, eqb, eqb-true, eq-eqb, ne_eqb}
+use Rattle.std.proofs.Common.{ℕ, zero, suc, ◌+◌, ◌≤◌, ◌<◌, Bool, true, false, not, cond, ◌⊎◌, inl, inr, ◌≡◌, refl, sym, Option, Some, IfSome, is_some}
+use Rattle.std.proofs.Common.{List, [], ◌∷◌, ◌++◌, add-one, arith, length, get_or, eqb, eqb-true, eq-eqb, ne_eqb}
 use Rattle.std.proofs.lemmas.List.{length_push}
-use Rattle.base.specs.Words.{has, distinct, words}
+use Rattle.base.specs.Words.{has, distinct}
 use Rattle.base.proofs.Bools.{clash, not_true, nots, and_left, and_right}
 use Rattle.base.proofs.Members.{has_cases, has_none, has_get_or, has_left, has_right, has_head, has_either, has_only, distinct_snoc}
-use Rattle.base.proofs.Parts.{words_length, words_snoc}
 use Rattle.slot.specs.Log.{place_in, found_place, later, newest_by, newest_in, once_by, once}
 
 -- ---- the place that is said
@@ -93,24 +93,6 @@ newest_at c [] i l e after = absurd (omega arith)
 newest_at c (x ∷ xs) zero l e after = rw (newest_none c xs (λ k m. after (suc k) (omega arith) (omega arith)), eq-eqb c x (sym e))
 newest_at c (x ∷ xs) (suc i) l e after = rw (newest_at c xs i (omega arith) e (λ k m n. after (suc k) (omega arith) (omega arith)))
 
--- the same of the words of a slot: of none, and of i, whose newest stands at the place i - 1
-pub newest_of_none : (c at : ℕ) (s : List ℕ) → newest_in c (words at 0 s) ≡ 0
-unfolding newest_in words
-newest_of_none c at s = refl
-
-module _ (c at i : ℕ) (s : List ℕ) (some : 0 < i) (long : at + i ≤ length s) where
-  last_word : words at i s ≡ words at (i - 1) s ++ (get_or s (at + i - 1) 0 ∷ [])
-  last_word =
-      let e : i ≡ suc (i - 1) = omega arith in
-      let f : at + i - 1 ≡ at + (i - 1) = omega arith in
-      rw f (ap (λ (k : ℕ). words at k s) e ∙ words_snoc at (i - 1) s (omega arith))
-
-  pub newest_word : c ≡ get_or s (at + i - 1) 0 → newest_in c (words at i s) ≡ i
-  newest_word e = rw (last_word, ← e, newest_here c (words at (i - 1) s), words_length at (i - 1) s (omega arith)) (omega arith)
-
-  pub newest_other : (c ≡ get_or s (at + i - 1) 0 → ⊥) → newest_in c (words at i s) ≡ newest_in c (words at (i - 1) s)
-  newest_other n = ap (newest_in c) last_word ∙ newest_before c _ (words at (i - 1) s) n
-
 -- a cell that stands once has one place, from whichever end it is looked for
 pub one_place : (c : ℕ) (xs : List ℕ) → distinct xs ≡ true → newest_in c xs ≡ place_in c xs
 unfolding newest_in place_in distinct
@@ -135,7 +117,8 @@ unfolding once
 once_old c xs k e = rw e
 
 -- each law of `once` is shown for a new cell and for an old one
-once_by_lem : (c : ℕ) (xs : List ℕ) (P : List ℕ → Type 0) → (place_in c xs ≡ 0 → P (xs ++ (c ∷ []))) → ((k : ℕ) → place_in c xs ≡ suc k → P xs) → P (once c xs)
+once_by_lem : (c : ℕ) (xs : List ℕ) (P : List ℕ → Type 0) → (place_in c xs ≡ 0 → P (xs ++ (c ∷ [])))
+    → ((k : ℕ) → place_in c xs ≡ suc k → P xs) → P (once c xs)
 unfolding once
 once_by_lem c xs P new old = go (place_in c xs) refl
   where

@@ -1,5 +1,6 @@
 -- What a run has read and stored so far, by document 01, "Instructions", and the slot that holds it. Assumes nothing.
-use Rattle.std.specs.Prelude.{ℕ, zero, suc, ◌-◌, ◌≤◌, ◌<◌, ◌≡◌, Bool, true, cond, Option, Some, None, List, [], ◌∷◌, ◌++◌, length, get_or, set, replicate, eqb}
+use Rattle.std.specs.Prelude.{ℕ, zero, suc, ◌-◌, ◌≤◌, ◌<◌, ◌≡◌, Bool, true, cond, Option, Some, None, List, [], ◌∷◌, ◌++◌, length, get_or, set}
+use Rattle.std.specs.Prelude.{replicate, eqb}
 use Rattle.base.specs.Words.{has, distinct, words}
 use Rattle.slot.specs.declared.ListKind.{ListKind}
 use Rattle.slot.specs.declared.ListKind.TheVariants.{Reads, Stores}
@@ -100,8 +101,8 @@ pub record Holds (s : List ℕ) : Type 0 where
   pub paired : length (log_of s).values ≡ length (log_of s).cells
   pub is : s ≡ layout waiting 0 (log_of s)
 
--- How a run knows what it has stored. Document 02, ask 4: "Look through the program's own stores instead, newest first." 0 where c is not in the list,
--- else 1 + its last place there: the newest entry stands last, and an older one counts only where no newer one is c.
+-- How a run knows what it has stored. Document 02, ask 4: "Look through the program's own stores instead, newest first." 0 where c is not in the
+-- list, else 1 + its last place there: the newest entry stands last, and an older one counts only where no newer one is c.
 abbrev pub newest_by : ℕ → Bool → ℕ
 newest_by zero here = cond here 1 0
 newest_by (suc k) here = suc (suc k)

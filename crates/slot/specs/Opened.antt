@@ -4,5 +4,6 @@ use Rattle.slot.specs.States.{has_run, is_end, can_settle, is_committed, is_carr
 use Rattle.slot.specs.Log.{place_in, once, loaded, with_read, with_store, layout, log_of, newest_in}
 
 unfoldable pub opened : Unit {0}
-unfolding words has_run is_end can_settle is_committed is_carried is_settled is_done is_in place_in once loaded with_read with_store layout log_of newest_in
+unfolding words has_run is_end can_settle is_committed is_carried is_settled is_done is_in
+    place_in once loaded with_read with_store layout log_of newest_in
 opened = tt

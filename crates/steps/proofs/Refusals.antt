@@ -7,9 +7,9 @@ use borrow.Author.Tests.{ltb-true}
 use Rattle.image.specs.declared.refusals.Refusal.TheVariants as refusal
 use Rattle.image.specs.Refusals.{passed}
 use Rattle.image.specs.Image.{count_of}
-use Rattle.image.proofs.Refusing.{none_fails, none_after}
+use Rattle.image.proofs.Refusing.{none_fails, none_after, checking, refused_as_lem, done_as}
 use Rattle.area.specs.Checks.{call_refusal, Checked, Paired}
-use Rattle.area.proofs.Checks.{checked, paired}
+use Rattle.area.proofs.Checks.{checked, paired, program_lies, measured}
 use Rattle.steps.specs.Gathering.{step_refusal, gather_refusal}
 use Rattle.steps.specs.Settling.{settle_refusal}
 
@@ -35,3 +35,8 @@ module _ (image t g a : List ℕ) (k : ℕ) where
   pub settle_shows : settle_refusal image t g a k ≡ passed → Checked image t a × (k < count_of image)
   unfolding settle_refusal
   settle_shows e = step_shows (none_after (step_refusal image t g a k) _ e).0
+
+-- how the steps go: check by check, with what those before have shown, and then what is done
+pub ruleset step_by_check = (checking, program_lies, measured, step_shows)
+
+pub ruleset done_by_check = (checking, refused_as_lem, done_as, gather_shows, settle_shows)

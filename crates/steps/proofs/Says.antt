@@ -1,34 +1,22 @@
 -- What the calls say, from what their parts did. Assumes nothing.
-use Prim.Native.Nat.{ℕ, ◌≤◌, ◌<◌}
+use Prim.Native.Nat.{ℕ, ◌<◌}
 use mathlib.Core.Path.{◌≡◌, refl, sym, ap, subst, ◌∙◌}
 use mathlib.Core.Bool.{Bool, true, false}
 use mathlib.Core.List.{List}
 use lib.ListN.{length}
-use borrow.Author.Tests.{lt-ltb, le-ltb}
-use Rattle.std.specs.Prelude.{Result, Ok, Err}
-use Rattle.image.specs.declared.refusals.Refusal.{Refusal}
-use Rattle.image.specs.Refusals.{passed}
-use Rattle.image.proofs.Refusing.{Checks, refused_as_lem, done_as}
 use Rattle.image.specs.Image.{count_of, second_rule}
 use Rattle.machine.specs.declared.Run.{Run}
-use Rattle.slot.specs.declared.ListKind.{ListKind}
 use Rattle.slot.specs.declared.ListKind.TheVariants.{Reads, Stores}
-use Rattle.area.specs.declared.MarkKind.{MarkKind}
 use Rattle.area.specs.declared.MarkKind.TheVariants.{Write, Read}
-use Rattle.area.specs.Layout.{marks_at, reads_of, stores_of, with_state}
-use Rattle.area.specs.Marks.{reserve, waw, raw, war, depends, lowest}
-use Rattle.area.specs.Checks.{open_refusal, Checked, Slotted}
+use Rattle.area.specs.Layout.{marks_at, reads_of, stores_of}
+use Rattle.area.specs.Marks.{reserve, waw, raw, war, lowest}
+use Rattle.area.specs.Checks.{Checked, Slotted}
 use Rattle.area.proofs.Checks.{checked_passed, program_slotted}
 use Rattle.area.proofs.LowestCells.{depends_lowest}
-use Rattle.steps.specs.declared.Settled.{Settled}
-use Rattle.steps.specs.declared.Verdict.{Verdict}
 use Rattle.steps.specs.declared.Verdict.TheVariants as judged
-use Rattle.steps.specs.Answers.{state_of_settled, detail_of_settled}
-use Rattle.steps.specs.Opening.{cleared, open_area, OpenSays}
-use Rattle.steps.specs.Gathering.{gather_refusal, run_at, reserved, gathered_by, gather_answer, gather_area, GatherSays}
+use Rattle.steps.specs.Gathering.{run_at, reserved, gathered_by}
 use Rattle.steps.specs.Gathering.{Gathers, RunsInto}
-use Rattle.steps.specs.Settling.{settle_refusal, by_rule1, by_rule2, decided, verdict, with_cells, settled_by, settled_table, settled_area, settle_answer, settle_table, settle_area}
-use Rattle.steps.specs.Settling.{SettleSays, Settles}
+use Rattle.steps.specs.Settling.{by_rule1, by_rule2, decided, verdict, with_cells, settled_by}
 use Rattle.steps.proofs.Views.{placed, marked, placed_stores, marked_reads}
 use Rattle.steps.proofs.Keeps.{fits, placed_checked, marked_checked}
 

@@ -36,13 +36,8 @@ pub enum Verdict {
 }
 
 // Opening sets the whole area to 0.
-#[tactic(auto, using(image::proofs::Refusing::checking, image::proofs::Refusing::refused_as_lem, image::proofs::Refusing::done_as), unfolding(crate::specs::Opening::open_area))]
-pub fn open(
-    image: &[u8],
-    table: &[u32],
-    guards: &[u32],
-    area: &mut [u32],
-) -> Result<(), Refusal>
+#[tactic(auto, using(crate::proofs::Refusals::done_by_check), unfolding(crate::specs::Opening::open_area))]
+pub fn open(image: &[u8], table: &[u32], guards: &[u32], area: &mut [u32]) -> Result<(), Refusal>
     ensures { OpenSays image.now table.now guards.now area.old result area.new }
 {
     area::open_refusal(image::image_refusal(image), image, table, guards, area)?;
@@ -51,7 +46,7 @@ pub fn open(
 }
 
 // Checks 1 to 8, with 14 in its place, which every step begins with.
-#[tactic(auto, using(image::proofs::Refusing::checking), unfolding(crate::specs::Gathering::step_refusal))]
+#[tactic(auto, using(crate::proofs::Refusals::step_by_check), unfolding(crate::specs::Gathering::step_refusal))]
 pub fn step_refusal(
     image: &[u8],
     table: &[u32],
@@ -69,7 +64,7 @@ pub fn step_refusal(
 }
 
 // Checks 1 to 9 of gathering.
-#[tactic(auto, using(image::proofs::Refusing::checking, crate::proofs::Refusals::step_shows, area::proofs::Checks::program_lies), unfolding(crate::specs::Gathering::gather_refusal, crate::specs::Gathering::waits))]
+#[tactic(auto, using(crate::proofs::Refusals::step_by_check), unfolding(crate::specs::Gathering::gather_refusal, crate::specs::Gathering::waits))]
 fn gather_refusal(
     image: &[u8],
     table: &[u32],
@@ -87,7 +82,7 @@ fn gather_refusal(
 }
 
 // The program's run, from its part of the image into its slot.
-#[tactic(auto, using(image::proofs::Laws::accepted, image::proofs::Laws::lies, machine::proofs::Laws::part_runnable, crate::proofs::Slots::runs_into))]
+#[tactic(auto, using(machine::proofs::Laws::part_runnable))]
 fn run_into(
     image: &[u8],
     table: &[u32],
@@ -136,7 +131,7 @@ pub fn gather_checked(
 }
 
 // Gathering runs one waiting program on the table with its guards, rewrites its slot and makes all its reservations.
-#[tactic(auto, using(image::proofs::Refusing::checking, image::proofs::Refusing::refused_as_lem, image::proofs::Refusing::done_as, crate::proofs::Refusals::gather_shows), unfolding(crate::specs::Gathering::gather_answer, crate::specs::Gathering::gather_area))]
+#[tactic(auto, using(crate::proofs::Refusals::done_by_check), unfolding(crate::specs::Gathering::gather_answer, crate::specs::Gathering::gather_area))]
 pub fn gather(
     image: &[u8],
     table: &[u32],
@@ -163,7 +158,7 @@ fn is_ready(area: &[u32], cells: usize, n: usize, number: usize) -> bool
 }
 
 // Checks 1 to 9 of settling.
-#[tactic(auto, using(image::proofs::Refusing::checking, crate::proofs::Refusals::step_shows, area::proofs::Checks::measured), unfolding(crate::specs::Settling::settle_refusal))]
+#[tactic(auto, using(crate::proofs::Refusals::step_by_check), unfolding(crate::specs::Settling::settle_refusal))]
 fn settle_refusal(
     image: &[u8],
     table: &[u32],
@@ -260,7 +255,7 @@ fn store_committed(settled: Settled, table: &mut [u32], area: &[u32], number: us
 }
 
 // Settling, where the checks have been made.
-#[tactic(auto, using(crate::proofs::Says::cells_dropped, area::proofs::Checks::program_lies, area::proofs::Checks::program_slotted))]
+#[tactic(auto, using(crate::proofs::Says::cells_dropped), unfolding(crate::specs::Settling::settled_area))]
 pub fn settle_checked(image: &[u8], table: &mut [u32], area: &mut [u32], number: usize) -> Settled
     requires { Checked image.now table.old area.old × (number < count_of image.now) }
     ensures { Settles image.now table.old area.old number result table.new area.new }
@@ -273,7 +268,7 @@ pub fn settle_checked(image: &[u8], table: &mut [u32], area: &mut [u32], number:
 }
 
 // Settling decides one gathered program; a committed one's stores go into the table.
-#[tactic(auto, using(image::proofs::Refusing::checking, image::proofs::Refusing::refused_as_lem, image::proofs::Refusing::done_as, crate::proofs::Refusals::settle_shows), unfolding(crate::specs::Settling::settle_answer, crate::specs::Settling::settle_table, crate::specs::Settling::settle_area))]
+#[tactic(auto, using(crate::proofs::Refusals::done_by_check), unfolding(crate::specs::Settling::settle_answer, crate::specs::Settling::settle_table, crate::specs::Settling::settle_area))]
 pub fn settle(
     image: &[u8],
     table: &mut [u32],

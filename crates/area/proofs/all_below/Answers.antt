@@ -13,5 +13,6 @@ pub returns : goal.returns
 unfolding all_below
 returns c =
     let a = c.args in
-    all_from_yields_List (λ w. ltb w a.bound) _ _ _ c.all.ensures.ran (YieldsList-from_slice (words a.at a.count a.area.now) (c.iter.ensures.rest ∙ lent_words a.at a.count a.area.now)) (λ x b q k. search (rules, tests))
+    let lent = YieldsList-from_slice (words a.at a.count a.area.now) (c.iter.ensures.rest ∙ lent_words a.at a.count a.area.now) in
+    all_from_yields_List (λ w. ltb w a.bound) _ _ _ c.all.ensures.ran lent (λ x b q k. search (rules, tests))
     ∙ all_lent a.at a.count a.area.now c.requires (λ w. ltb w a.bound)

@@ -5,4 +5,7 @@ use Rattle.area.proofs.Loops.{reserve_more}
 use Rattle.area.proofs.reserve_cells.Goals as goal
 
 pub loop-i-preserved : goal.loop-i-preserved
-loop-i-preserved c = (grind (arith, reserve_more, c.loop-i.invariant.1, c.requires.0.before_at), λ j. grind (arith, common_steps, c.loop-i.invariant.1, c.requires.0.before_at))
+loop-i-preserved c =
+    let same = c.loop-i.invariant.1 in
+    let before = c.requires.0.before_at in
+    (grind (arith, reserve_more, same, before), λ j. grind (arith, common_steps, same, before))

@@ -12,7 +12,10 @@ bounds-table-cell c =
     let a = c.args in
     let cells = lent_words a.cells a.count a.area.now in
     let values = lent_words a.values a.count a.area.now in
-    let turn = zip_turn (words a.cells a.count a.area.now) (words a.values a.count a.area.now) c.loop-cell.yielded _ _ c.next.new.self _ (cc cells) (cc values) c.loop-cell.yielded_by _ c.in-Some.is c.next.ensures.steps in
+    let l = c.loop-cell in
+    let stored = words a.cells a.count a.area.now in
+    let turn = zip_turn stored (words a.values a.count a.area.now) l.yielded _ _ c.next.new.self _ (cc cells) (cc values) l.yielded_by _ c.in-Some.is
+    c.next.ensures.steps in
     grind (arith, words_length, words_at, turn.0, turn.2 0, c.requires.in_table)
 
 pub loop-cell-preserved : goal.loop-cell-preserved
@@ -20,5 +23,8 @@ loop-cell-preserved c =
     let a = c.args in
     let cells = lent_words a.cells a.count a.area.now in
     let values = lent_words a.values a.count a.area.now in
-    let turn = zip_turn (words a.cells a.count a.area.now) (words a.values a.count a.area.now) c.loop-cell.yielded _ _ c.next.new.self _ (cc cells) (cc values) c.loop-cell.yielded_by _ c.in-Some.is c.next.ensures.steps in
+    let l = c.loop-cell in
+    let stored = words a.cells a.count a.area.now in
+    let turn = zip_turn stored (words a.values a.count a.area.now) l.yielded _ _ c.next.new.self _ (cc cells) (cc values) l.yielded_by _ c.in-Some.is
+    c.next.ensures.steps in
     grind (arith, common_steps, words_length, words_at, store_more, turn.0, turn.2 0, turn.3 0)

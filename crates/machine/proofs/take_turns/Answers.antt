@@ -10,16 +10,16 @@ loop-machine-init c = (refl, going_start c.requires.runnable c.new-machine.ensur
 pub step-turned-requires : goal.step-turned-requires
 step-turned-requires c =
     let r = c.requires in
+    let l = c.loop-machine in
     let u = c.loop-machine-test.true in
-    (going_ready r.runnable c.loop-machine.invariant.1 u, instruction_named c.args.program.now r.runnable.good c.loop-machine.machine.place u, r.pairs)
+    (going_ready r.runnable l.invariant.1 u, instruction_named c.args.program.now r.runnable.good l.machine.place u, r.pairs)
 
 pub returns-in-Some : goal.returns-in-Some
 returns-in-Some c = going_stop c.requires.runnable c.loop-machine.invariant.1 c.loop-machine-test.true c.step-turned.ensures c.in-Some.is
 
 pub loop-machine-smaller : goal.loop-machine-smaller
 loop-machine-smaller c =
-    let u = c.loop-machine-test.true in
-    omega (arith, going_forward c.requires.runnable c.loop-machine.invariant.1 u c.step-turned.ensures c.in_default.is)
+    omega (arith, going_forward c.requires.runnable c.loop-machine.invariant.1 c.loop-machine-test.true c.step-turned.ensures c.in_default.is)
 
 pub loop-machine-preserved : goal.loop-machine-preserved
 loop-machine-preserved c =

@@ -1,5 +1,5 @@
--- The loop's invariant, `Going`: what is left of the run ends as the whole run does. The measure is what is left of the instructions, since every turn
--- goes forward. Assumes nothing.
+-- The loop's invariant, `Going`: what is left of the run ends as the whole run does. The measure is what is left of the instructions, since every
+-- turn goes forward. Assumes nothing.
 use Rattle.std.proofs.Common.{◌≡◌, ◌-◌}
 use Rattle.image.specs.Instruction.{instructions_of}
 use Rattle.guard.specs.Guards.{admits}
