@@ -10,6 +10,7 @@ use borrow.Author.Tests.{ltb-true}
 use Rattle.base.proofs.Numbers.{every_at}
 use Rattle.text.specs.Decimal.{decimal}
 use Rattle.text.specs.Filled.{texts}
+use Rattle.image.specs.Refusals.{passed}
 use Rattle.image.specs.Instruction.{rows, known, byte_of, instructions_of, program_good}
 use Rattle.image.specs.Image.{count_of, rule_byte, part_of, code_good, refusal_of}
 use Rattle.image.proofs.Faults.{good_at}
@@ -74,7 +75,7 @@ module _ (image : List ℕ) {n : ℕ} (n_is : n ≡ count_of image) where
       → length (sheet_of_image image) ≡ 6 + length (decimal rule) + length (sheet_text (programs_lines (picked (λ k. true) image n)))
   length_sheet_of {rule} e = rw (sheet_text_lem e, length-append) (omega (arith, rule_length rule))
 
-  pub good_programs : (refusal_of image).number ≡ 0 → Programs image n
+  pub good_programs : refusal_of image ≡ passed → Programs image n
   unfolding code_good
   good_programs none =
       let a = accepted image none in

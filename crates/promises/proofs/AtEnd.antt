@@ -42,69 +42,27 @@ use Rattle.promises.proofs.PaperOrder.{paper_order, order_members, order_distinc
 
 -- ---- how a program ends, by the paper
 
--- a run that is not kept is neither committed nor carried: it is done with
-run_uncommitted : (r : Run) → keeps r ≡ false → is_committed (state_of_run r) ≡ false
-unfolding is_committed
-run_uncommitted Finished e = refl
-run_uncommitted (Rejected code) e = refl
-run_uncommitted (Faulted kind at) e = refl
-
-run_uncarried : (r : Run) → keeps r ≡ false → is_carried (state_of_run r) ≡ false
-unfolding is_carried
-run_uncarried Finished e = refl
-run_uncarried (Rejected code) e = refl
-run_uncarried (Faulted kind at) e = refl
-
-run_done : (r : Run) → keeps r ≡ false → is_done (state_of_run r) ≡ not (is_carried (state_of_run r))
-unfolding is_done is_committed is_carried
-run_done Finished e = clash refl e
-run_done (Rejected code) e = refl
-run_done (Faulted kind at) e = refl
-
 module _ (b : Batch) (k : ℕ) where
-  -- each is shown of the answer that the run gave
-  by_answer : (P : ℕ → Bool → Bool → Type 0) → P committed true true → P carried true false
-      → ((r : Run) → keeps r ≡ false → P (state_of_run r) false false) → P (state_after b k) (gets_settled b k) (commits b k)
-  unfolding state_after
-  by_answer P x y z =
-      go (b.runs k).answer refl (gets_settled b k) (settled_keeps b k) (commits b k) (commits_keeps b k)
-    where
-      go : (r : Run) → r ≡ (b.runs k).answer → (g : Bool) → g ≡ keeps (b.runs k).answer → (c : Bool) → (c ≡ true → keeps (b.runs k).answer ≡ true)
-          → P (cond g (cond c committed carried) (state_of_run (b.runs k).answer)) g c
-      go r e true f true h = x
-      go r e true f false h = y
-      go r e false f true h = clash (h refl) (sym f)
-      go r e false f false h = z (b.runs k).answer (sym f)
-
   pub committed_is : is_committed (state_after b k) ≡ commits b k
-  unfolding is_committed
-  committed_is = by_answer (λ s g c. is_committed s ≡ c) refl refl run_uncommitted
+  unfolding is_committed state_after
+  committed_is = grind (arith, commits_keeps b k, settled_keeps b k)
 
   pub carried_is : is_carried (state_after b k) ≡ gets_settled b k && not (commits b k)
-  unfolding is_carried
-  carried_is = by_answer (λ s g c. is_carried s ≡ g && not c) refl refl run_uncarried
+  unfolding is_carried state_after
+  carried_is = grind (arith, settled_keeps b k)
 
   -- committed, rejected and faulted are all the ends but one
   pub done_is : is_done (state_after b k) ≡ not (is_carried (state_after b k))
-  unfolding is_done is_committed is_carried
-  done_is = by_answer (λ s g c. is_done s ≡ not (is_carried s)) refl refl run_done
+  unfolding is_done is_committed is_carried state_after
+  done_is = grind (arith, settled_keeps b k)
 
 -- nothing is earlier than program 0, so it has nothing against it
 pub zero_commits : (b : Batch) → commits b 0 ≡ keeps_stores b 0
 unfolding commits touches some
-zero_commits b = go (keeps_stores b 0) b.second
-  where
-    go : (f second : Bool) → f && cond second (rule2 false false false) (rule1 false false) ≡ f
-    go true true = refl
-    go true false = refl
-    go false second = refl
+zero_commits b = grind arith
 
 pub zero_ends : (b : Batch) → is_carried (state_after b 0) ≡ false
-zero_ends b = carried_is b 0 ∙ rw (zero_commits b, settled_keeps b 0) (go (keeps_stores b 0))
-  where
-    go : (x : Bool) → x && not x ≡ false
-    go true = refl
-    go false = refl
+zero_ends b = grind (arith, carried_is b 0, zero_commits b, settled_keeps b 0)
 
 waiting_uncarried : is_carried waiting ≡ false
 unfolding is_carried
@@ -197,8 +155,6 @@ module _ {image t g : List ℕ} {w : World} (end : PaperEnd image t g w) where
   -- program 0 is not carried; where there is none, the area ends before its slot
   pub end_zero : in_group Carried (length t) w.area 0 ≡ false
   unfolding in_group is_in
-  end_zero = go (known (ltb 0 (count_of image)))
-    where
-      go : (ltb 0 (count_of image) ≡ true) ⊎ (ltb 0 (count_of image) ≡ false) → is_carried (state_of (length t) 0 w.area) ≡ false
-      go (inl e) = rw (end.state_is 0 (ltb-true _ _ e)) (zero_ends (batch_of image t g))
-      go (inr e) = ap is_carried (state_past (length t) (count_of image) 0 w.area (rw end_sized at end.checks.sized) (ltb-false _ _ e)) ∙ waiting_uncarried
+  end_zero =
+      let past = state_past (length t) (count_of image) 0 w.area (rw end_sized at end.checks.sized) in
+      grind (arith, end.state_is 0, zero_ends (batch_of image t g), past, waiting_uncarried)

@@ -29,16 +29,8 @@ rank b k = cond (raw b k) (b.programs - k) (b.programs + k)
 module _ (b : Batch) where
   ranked : Ranked b.programs (λ k. read_set b k) (λ k. write_set b k) (commits b) (rank b)
   unfolding rank
-  ranked = record { falls = λ i j li lj ei ej ne h. go i j li lj ne h (raw b i) (raw b j) refl refl (commits_not_both b i ei) }
-    where
-      go : (i j : ℕ) → i < b.programs → j < b.programs → (j ≡ i → ⊥) → meets (read_set b j) (write_set b i) ≡ true
-          → (p q : Bool) → raw b i ≡ p → raw b j ≡ q → (raw b i ≡ false) ⊎ (war b i ≡ false)
-          → cond q (b.programs - j) (b.programs + j) < cond p (b.programs - i) (b.programs + i)
-      go i j li lj ne h true q ei ej (inl z) = clash ei z
-      go i j li lj ne h true true ei ej (inr z) = let t = no_war_downward b i j z h in omega arith
-      go i j li lj ne h true false ei ej (inr z) = let t = no_war_downward b i j z h in let u = no_raw_upward b i j ej h in absurd (ne (omega arith))
-      go i j li lj ne h false true ei ej z = omega arith
-      go i j li lj ne h false false ei ej z = let u = no_raw_upward b i j ej h in omega arith
+  ranked =
+      record { falls = λ i j li lj ei ej ne h. grind (arith, commits_not_both b i ei, no_war_downward b i j, no_raw_upward b i j) }
 
   pub order_members : (k : ℕ) → has k (paper_order b) ≡ ltb k b.programs && commits b k
   unfolding paper_order

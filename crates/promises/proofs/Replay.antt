@@ -5,10 +5,11 @@ use mathlib.Core.Path.{◌≡◌, refl, sym, ◌∙◌, ap}
 use mathlib.Core.Logic.{◌⊎◌, inl, inr}
 use mathlib.Core.Bool.{Bool, true, false, not, ◌||◌, ◌&&◌}
 use mathlib.Core.List.{List, [], ◌∷◌, map}
+use native.Mathlib.Omega.{arith}
 use lib.Dec.{eqb, ltb}
 use lib.ListN.{length, get_or, set}
 use lib.Seq.{get_or-set_other}
-use borrow.Author.Tests.{eqb-false, ltb-true, lt-ltb}
+use borrow.Author.Tests.{eqb-true, ltb-true}
 use Rattle.base.specs.Words.{has, distinct}
 use Rattle.base.proofs.Bools.{clash, not_true, and_both, nots, or_false}
 use Rattle.base.proofs.Members.{has_head, has_tail, meets_in}
@@ -31,18 +32,14 @@ use Rattle.promises.proofs.PaperOrder.{paper_order, order_members, order_distinc
 
 -- a run that keeps its log keeps all of it
 kept_all : (r : Run) (l : Log) → keeps r ≡ true → kept r l ≡ l
-kept_all Finished l e = refl
-kept_all (Rejected code) l e = clash e refl
-kept_all (Faulted kind at) l e = clash e refl
+kept_all r l e = grind arith
 
 -- a cell that is not among the stored ones keeps its value
 store_other : (cs vs t : List ℕ) (c : ℕ) → has c cs ≡ false → get_or (store_all cs vs t) c 0 ≡ get_or t c 0
 unfolding store_all has
 store_other [] vs t c e = refl
 store_other (x ∷ cs) [] t c e = refl
-store_other (x ∷ cs) (v ∷ vs) t c e =
-    let u = or_false (eqb c x) (has c cs) e in
-    store_other cs vs (set t x v) c u.1 ∙ get_or-set_other t x c v 0 (eqb-false c x u.0)
+store_other (x ∷ cs) (v ∷ vs) t c e = grind (arith, store_other cs vs (set t x v) c, get_or-set_other t x c v 0)
 
 module _ (image t g : List ℕ) where
   -- The programs of the list l commit, they are still to be run, in this order, and the table u has the opening values where they read.
@@ -102,17 +99,8 @@ module _ (image t g : List ℕ) where
       let more = installs_next done k (below k (has_head k l)) new (w.committing k (has_head k l)) (λ j e. (apart j e).0) in
       rw (same_run k l u w, more)
       (table_same test (also k done) l (rw more at (to_run_next k l u w)) once.1 (λ j h. below j (has_tail j k l h))
-      (λ j e. other j (nots (has k l) once.0) (also_cases k done j e))
-      (λ j h. shuffle (eqb j k) (has j l) (done j) ∙ all j h))
-    where
-      shuffle : (x y z : Bool) → y || (x || z) ≡ x || y || z
-      shuffle true true z = refl
-      shuffle true false z = refl
-      shuffle false y z = refl
-
-      other : (j : ℕ) → has k l ≡ false → (j ≡ k) ⊎ (done j ≡ true) → (commits (batch_of image t g) j ≡ true) × (has j l ≡ false)
-      other j n (inl q) = rw q (w.committing k (has_head k l), n)
-      other j n (inr e) = ((apart j e).0, (or_false (eqb j k) (has j l) (apart j e).1).1)
+      (λ j e. let c = w.committing k (has_head k l) in grind (arith, eqb-true, apart j))
+      (λ j h. grind (arith, all j h)))
 
   -- ---- all that commit, from the opening table
 
@@ -138,8 +126,4 @@ module _ (image t g : List ℕ) where
       rw start at (table_same (commits b) nobody l (rw start to_run_first) (order_distinct b)
       (λ k h. ltb-true _ _ (and_both (ltb k (count_of image)) (commits b k) (sym (order_members b k) ∙ h)).0)
       (λ k e. clash e refl)
-      (λ k h. no_more (has k l) ∙ order_members b k ∙ ap (λ (x : Bool). x && commits b k) (lt-ltb _ _ h)))
-    where
-      no_more : (x : Bool) → x || false ≡ x
-      no_more true = refl
-      no_more false = refl
+      (λ k h. grind (arith, order_members b k)))

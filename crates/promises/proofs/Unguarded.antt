@@ -5,6 +5,7 @@ use mathlib.Core.Path.{◌≡◌, ap, ◌∙◌}
 use mathlib.Core.List.{List}
 use lib.ListN.{length, get_or}
 use native.Mathlib.Omega.{arith}
+use Rattle.std.specs.Prelude.{Ok, Err}
 use Rattle.base.proofs.Tables.{tabulate_length}
 use borrow.Author.Tests.{eq-eqb}
 use Rattle.image.specs.Refusals.{check, unless}
@@ -15,7 +16,6 @@ use Rattle.guard.proofs.Laws.{full_range_lem}
 use Rattle.machine.specs.Runs.{free_run}
 use Rattle.machine.proofs.Guarded.{full_is_free}
 use Rattle.area.specs.Checks.{room_refusal, open_refusal, Paired}
-use Rattle.steps.specs.declared.Gathered.TheVariants.{Refused, Ran}
 use Rattle.steps.specs.Gathering.{gather_refusal, run_at, gathered_by, gather_answer, gather_area}
 use Rattle.promises.specs.Paper.{Batch, batch_of}
 use Rattle.promises.specs.Laid.{World, end_of}
@@ -37,7 +37,7 @@ module _ (image t g : List ℕ) (lent : NoGuards image t g) where
 
   -- and so is what each gathering answers and leaves, in whatever area
   pub free_gathering : (a : List ℕ) (k : ℕ)
-      → (gather_answer image t g a k ≡ unless (gather_refusal image t g a k) Refused (Ran (free_run (part_of image k) t).answer))
+      → (gather_answer image t g a k ≡ unless (gather_refusal image t g a k) Err (Ok (free_run (part_of image k) t).answer))
       × (gather_area image t g a k ≡ unless (gather_refusal image t g a k) (λ r. a) (gathered_by (length t) k (free_run (part_of image k) t) a))
   unfolding gather_answer gather_area
   free_gathering a k = (rw (free_run_lem k), rw (free_run_lem k))

@@ -46,16 +46,12 @@ module _ (b : Batch) (G S : ℕ → Bool) (T : ℕ) (fits : Fitting b T) where
   slots_at : (m k : ℕ) → m ≤ b.programs → k < m → words (slot_words * k) slot_words (slots_to b G S m) ≡ slot_on b G S k
   unfolding slots_to Fitting
   slots_at zero k h l = absurd (omega arith)
-  slots_at (suc m) k h l = go (below k m l) (slots_at m k (omega arith))
-    where
-      go : (k ≡ m) ⊎ (k < m) → (k < m → words (slot_words * k) slot_words (slots_to b G S m) ≡ slot_on b G S k)
-          → words (slot_words * k) slot_words (slots_to b G S m ++ slot_on b G S m) ≡ slot_on b G S k
-      go (inl e) ih =
-          rw e
-          (words_right (slots_to b G S m) (slot_on b G S m) (slot_words * m) 0 slot_words (omega (arith, slots_length m (omega arith)))
-          ∙ words_all slot_words (slot_on b G S m) (slot_length b G S T m (fits m h)))
-      go (inr j) ih =
-          words_left (slots_to b G S m) (slot_on b G S m) (slot_words * k) slot_words (omega (arith, slots_length m (omega arith))) ∙ ih j
+  slots_at (suc m) k h l =
+      let before = slots_to b G S m in
+      let own = slot_on b G S m in
+      let long = slots_length m (omega arith) in
+      let last = words_all slot_words own (slot_length b G S T m (fits m h)) in
+      grind (arith, slots_at m k, words_right before own (slot_words * m) 0 slot_words, words_left before own (slot_words * k) slot_words)
 
   -- ---- the area
 
@@ -137,7 +133,7 @@ module _ (b : Batch) (G S : ℕ → Bool) (T : ℕ) (fits : Fitting b T) where
 
     pub settled_on : gets_settled b k ≡ true → settled_in T (area_on b G S T) k ≡ G k && S k
     unfolding settled_in
-    settled_on f = rw state_on (by_settled b k f (G k) (S k))
+    settled_on f = rw state_on (by_settled b k (G k) (S k) f)
 
 -- ---- two areas on the way are equal where the same programs are gathered and, of those that are settled at all, the same have been
 

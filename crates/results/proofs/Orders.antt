@@ -1,5 +1,5 @@
 -- What the answer of the call for the listed order makes the listing: a refusal's line, or the listing with the first entries of the list. Assumes nothing.
-use mathlib.Core.Path.{◌≡◌, refl, ap}
+use mathlib.Core.Path.{◌≡◌, refl}
 use mathlib.Core.List.{List}
 use Prim.Native.Nat.{ℕ, ◌≤◌}
 use native.Mathlib.Omega.{arith}

@@ -4,7 +4,9 @@ use Prim.Native.Nat.{ℕ}
 use mathlib.Core.Path.{◌≡◌, refl}
 use mathlib.Core.List.{List, [], ◌∷◌, ◌++◌}
 use lib.ListN.{replicate}
-use Rattle.image.specs.Refusals.{refusing_at, refusing, no_count, counted}
+use Rattle.std.specs.Prelude.{Ok, Err}
+use Rattle.image.specs.declared.refusals.Refusal.TheVariants.{TooShort}
+use Rattle.image.specs.Refusals.{refusing_at, refusing, numbers_of_count}
 use Rattle.image.specs.Assembler.{end, set, reject, program, image}
 use Rattle.image.specs.Opened as images
 use Rattle.area.specs.Sketch.{slot, area}
@@ -12,10 +14,11 @@ use Rattle.steps.specs.Opened as steps
 use Rattle.causes.specs.Opened as causes
 use Rattle.listing.specs.Opened as listing
 use Rattle.carry.specs.Opened as carry
+use Rattle.numbers.specs.Numbers.{CountTells}
 use Rattle.text.specs.Ascii.{ascii}
 use Rattle.from_sheet.specs.Opened as from_sheet
 use Rattle.from_image.specs.Opened as from_image
-use Rattle.sheetbendle_c.specs.Calls.{PartTells, ProgramRefusalTells, OpenTells, CountTells, GatherTells, SettleTells, WhyTells, OrderTells, NextTells, line_shown, ImageOfTells, SheetOfTells}
+use Rattle.sheetbendle_c.specs.Calls.{PartTells, ProgramRefusalTells, OpenTells, GatherTells, SettleTells, WhyTells, OrderTells, NextTells, line_shown, ImageOfTells, SheetOfTells}
 
 -- of two programs, number 1 begins at byte 14 and has 8 bytes; there is no number 2
 abbrev two : List ℕ
@@ -34,7 +37,8 @@ unfolding images.opened
 program_refusal_tells = (record { refusal = refl }, record { refusal = refl }, record { refusal = refl })
 
 -- "the order its count, the next image its length. A refusal returns its number, 0 for every other result"
-count_tells : CountTells (counted 28) (record { refusal = refusing 0; count = 28 }) × CountTells (no_count (refusing 10)) (record { refusal = refusing 10; count = 0 })
+count_tells : CountTells (numbers_of_count (Ok 28)) (record { refusal = refusing 0; count = 28 })
+    × CountTells (numbers_of_count (Err TooShort)) (record { refusal = refusing 10; count = 0 })
 count_tells = (record { refusal = refl; count = refl }, record { refusal = refl; count = refl })
 
 open_tells : OpenTells (image 0 []) (5 ∷ []) (1 ∷ 0 ∷ []) (7 ∷ 7 ∷ []) (refusing 0) (0 ∷ 0 ∷ [])

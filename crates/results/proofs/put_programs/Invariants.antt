@@ -1,5 +1,4 @@
 -- The lines of the programs below k are put. Assumes nothing.
-use Prim.Native.Nat.{◌≤◌}
 use Rattle.text.specs.Paper.{Put}
 use Rattle.results.specs.Listing.{program_lines}
 use Rattle.results.proofs.put_programs.Given as goal
