@@ -1,23 +1,19 @@
 -- What the table and the area at a batch's end say, in the paper's words: who is committed, who is carried, and the listed order. Assumes nothing.
 use Prim.Native.Nat.{ℕ, ◌≤◌, ◌<◌}
 use mathlib.Core.Path.{◌≡◌, refl, sym, ◌∙◌, ap}
-use mathlib.Core.Logic.{◌⊎◌, inl, inr}
-use mathlib.Core.Bool.{Bool, true, false, not, cond, ◌&&◌}
+use mathlib.Core.Bool.{true, false, not, ◌&&◌}
 use mathlib.Core.List.{List}
 use native.Mathlib.Omega.{arith}
 use lib.Dec.{ltb}
 use lib.ListN.{length, get_or-eq_default}
-use borrow.Author.Tests.{eq-eqb, ltb-true, ltb-false}
+use borrow.Author.Tests.{eq-eqb, ltb-true}
 use Rattle.base.specs.Words.{count, some, has, distinct}
-use Rattle.base.proofs.Bools.{known, clash, and_same}
+use Rattle.base.proofs.Bools.{and_same}
 use Rattle.base.proofs.Counts.{count_ext}
 use Rattle.image.specs.Image.{count_of}
 use Rattle.slot.specs.declared.Group.TheVariants.{Committed, Carried}
 use Rattle.slot.specs.declared.ListKind.{ListKind}
-use Rattle.slot.specs.States.{waiting, committed, carried, is_committed, is_carried, is_done, is_in}
-use Rattle.machine.specs.declared.Run.{Run}
-use Rattle.machine.specs.declared.Run.TheVariants.{Finished, Rejected, Faulted}
-use Rattle.machine.specs.Runs.{keeps, state_of_run}
+use Rattle.slot.specs.States.{waiting, is_committed, is_carried, is_done, is_in}
 use Rattle.area.specs.declared.MarkKind.{MarkKind}
 use Rattle.area.specs.Layout.{area_words, state_at, state_of, detail_of, in_group, reads_of, stores_of}
 use Rattle.area.specs.Marks.{list_for, depends}
@@ -28,7 +24,7 @@ use Rattle.causes.specs.Causes.{cause_of}
 use Rattle.causes.proofs.Naming.{found}
 use Rattle.listing.specs.Listing.{committed_count, order_of, order_exists}
 use Rattle.listing.proofs.Taken.{listed_ext}
-use Rattle.promises.specs.Paper.{Batch, batch_of, keeps_stores, gets_settled, read_set, write_set, touches, rule1, rule2, commits, state_after, detail_after, table_after}
+use Rattle.promises.specs.Paper.{Batch, batch_of, keeps_stores, gets_settled, read_set, write_set, touches, commits, state_after, detail_after, table_after}
 use Rattle.promises.specs.Laid.{World, all, paper_world}
 use Rattle.promises.specs.History.{RunToEnd}
 use Rattle.promises.specs.Causes.{TrueCause}

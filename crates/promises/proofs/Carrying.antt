@@ -1,6 +1,6 @@
 -- From batch to batch: a program that is carried stands in the next image, in a smaller place. Assumes nothing.
 use Prim.Native.Nat.{ℕ, zero, suc, ◌+◌, ◌≤◌, ◌<◌}
-use mathlib.Core.Path.{◌≡◌, ◌∙◌}
+use mathlib.Core.Path.{◌≡◌}
 use mathlib.Core.Logic.{◌⊎◌, inl, inr}
 use mathlib.Core.Bool.{Bool, true, false, not}
 use mathlib.Core.List.{List}
@@ -8,9 +8,8 @@ use native.Mathlib.Omega.{arith}
 use lib.ListN.{length}
 use borrow.Author.Tests.{eqb-true}
 use Rattle.base.specs.Words.{count}
-use Rattle.base.proofs.Bools.{known, clash}
+use Rattle.base.proofs.Bools.{known}
 use Rattle.base.proofs.Counts.{count_below, count_misses}
-use Rattle.base.proofs.Numbers.{zero_or, below}
 use Rattle.image.specs.Image.{count_of, part_of}
 use Rattle.slot.specs.declared.Group.TheVariants.{Carried}
 use Rattle.slot.specs.States.{carried, is_done, is_carried, is_in}

@@ -2,16 +2,13 @@
 -- order the program does not stand behind the one that it names. Assumes nothing.
 use Prim.Native.Nat.{ℕ, ◌<◌}
 use mathlib.Core.Path.{◌≡◌, refl, sym, ◌∙◌}
-use mathlib.Core.Logic.{◌⊎◌, inl, inr}
-use mathlib.Core.Bool.{Bool, true, false, cond}
+use mathlib.Core.Bool.{Bool, true, false}
 use mathlib.Core.List.{List, [], ◌∷◌}
 use native.Mathlib.Omega.{arith}
-use lib.Dec.{eqb}
 use lib.ListN.{length}
 use borrow.Author.Tests.{eqb-true}
 use Rattle.std.specs.Prelude.{Ok, Err}
-use Rattle.base.specs.Words.{has, meets}
-use Rattle.base.proofs.Bools.{known, clash, not_true}
+use Rattle.base.specs.Words.{meets}
 use Rattle.base.proofs.Members.{meets_in}
 use Rattle.image.specs.Image.{count_of}
 use Rattle.image.proofs.Refusing.{unless_done}

@@ -1,8 +1,7 @@
 -- Who commits: what a commit tells, and the decision in the words of the call. Assumes nothing.
 use mathlib.Core.Path.{◌≡◌}
 use mathlib.Core.Bool.{true, false, cond}
-use Prim.Native.Nat.{ℕ, ◌<◌}
-use native.Mathlib.Decide.{dec_lt}
+use Prim.Native.Nat.{ℕ}
 use native.Mathlib.Omega.{arith}
 use Rattle.base.specs.Words.{meets}
 use Rattle.base.proofs.Members.{meets_swap}

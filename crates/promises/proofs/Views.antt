@@ -1,6 +1,5 @@
 -- The paper's batch laid out as an area, seen through the area's own views: its length, its marks, its slots, and what each slot says. Assumes nothing.
 use mathlib.Core.Path.{◌≡◌, refl, sym, ap, ◌∙◌}
-use mathlib.Core.Logic.{◌⊎◌, inl, inr}
 use mathlib.Core.Bool.{Bool, true, ◌&&◌}
 use mathlib.Core.List.{List, ◌++◌}
 use Prim.Native.Nat.{ℕ, zero, suc, ◌+◌, ◌*◌, ◌≤◌, ◌<◌}
@@ -8,7 +7,7 @@ use native.Mathlib.Omega.{arith}
 use lib.ListN.{length, get_or, length-append}
 use Rattle.base.specs.Words.{tabulate, has, words}
 use Rattle.base.proofs.Joins.{words_all, words_left, words_right}
-use Rattle.base.proofs.Numbers.{below, first_le, first_ext}
+use Rattle.base.proofs.Numbers.{first_le, first_ext}
 use Rattle.base.proofs.Parts.{words_at}
 use Rattle.base.proofs.Tables.{tabulate_length, tabulate_at, tabulate_ext}
 use Rattle.slot.specs.Layout.{slot_words}
