@@ -137,6 +137,7 @@ fn put_with(page: &mut Page, order: &[u32], batch: Batch)
 }
 
 // All that came of a settled batch; where it has no listed order, the refusal.
+#[tactic(auto, unfolding(crate::specs::Listing::listing, listing::specs::Listing::order_answer, listing::specs::Listing::order_list, image::specs::Refusals::unless))]
 pub fn put_listing(page: &mut Page, batch: Batch)
     requires { Measured (length batch.table.now) (count_of batch.image.now) batch.area.now × Fits page.old (listing batch.image.now batch.table.now batch.guards.now batch.area.now) }
     ensures { Put page.old (listing batch.entry.image.now batch.entry.table.now batch.entry.guards.now batch.entry.area.now) page.new }
