@@ -2,7 +2,7 @@
 // of them before the image. It is read from standard input, and taken apart.
 #![tactic(auto)]
 
-ghost use Rattle.std.specs.Prelude.{◌≡◌, ◌+◌, ◌*◌, ◌≤◌, ◌<◌, length};
+ghost use Rattle.std.specs.Prelude.{◌≡◌, ◌+◌, ◌*◌, ◌≤◌, length, IfSome};
 ghost use Rattle.io.specs.Counts.{IsPrefixLen};
 ghost use Rattle.image.specs.Limits.{max_cells};
 ghost use Rattle.guard.specs.Guards.{guard_words};
@@ -21,40 +21,39 @@ pub const LONGEST: usize = COUNT_BYTES + CELL_BYTES * image::Image::CELLS + imag
 // The same where there are guards before the image.
 pub const LONGEST_GUARDED: usize = LONGEST + CELL_BYTES * guard::ENDS * image::Image::CELLS;
 
-// Reads once, behind the bytes that are there, and answers how many came: 0 at the input's end, and where the read fails, which it tells in the program's name.
-fn read_on(reader: &mut impl Read, program: &[u8], input: &mut [u8], there: usize) -> usize
-    requires { there ≤ length input.old }
-    ensures { (there + result ≤ length input.old) × (length input.new ≡ length input.old) }
+// Reads until what is lent is full or nothing more comes, and answers how many bytes came. A read that fails is told, and ends it.
+pub fn read_full<F: FnOnce()>(reader: &mut impl Read, room: &mut [u8], failed: F) -> usize
+    requires { F.IsAlwaysCallable failed }
+    ensures { IsPrefixLen result room.new }
 {
-    match reader.read(&mut input[there..]) {
-        Ok(got) => got,
-        Err(_) => {
-            output::complain(program, b"standard input cannot be read");
-            0
+    let mut there = 0;
+    while there < room.len() {
+        match reader.read(&mut room[there..]) {
+            Ok(0) => break,
+            Ok(more) => there += more,
+            Err(_) => {
+                failed();
+                return there;
+            }
         }
     }
+    there
 }
 
-// Reads until what is lent is full or nothing more comes, and answers how many bytes came.
+// Standard input, into what is lent.
 pub fn read_input(rt: &impl Input, program: &[u8], input: &mut [u8]) -> usize
     ensures { IsPrefixLen result input.new }
 {
-    let mut reader = rt.reader();
-    let mut there = 0;
-    while there < input.len() {
-        let more = read_on(&mut reader, program, input, there);
-        if more == 0 {
-            break;
-        }
-        there += more;
-    }
-    there
+    read_full(&mut rt.reader(), input, || {
+        output::complain(program, b"standard input cannot be read")
+    })
 }
 
 // T, where the prefix is good: the input has the bytes that it needs, and T is within 1 to 256.
 #[tactic(auto, unfolding(crate::specs::Prefix::cells_of, crate::specs::Prefix::prefix_good, image::specs::Image::number_at))]
 pub fn cells_of(input: &[u8]) -> Option<usize>
-    ensures { result ≡ cells_of input.now }
+    ensures named { result ≡ cells_of input.now }
+    ensures there { IfSome result (λ T. (T ≤ max_cells) × (prefix_bytes T ≤ length input.now)) }
 {
     if input.len() < COUNT_BYTES {
         return None;

@@ -1,5 +1,5 @@
--- The cause that marks and slot show, at the end of a batch, is that of the programs' runs: each mark is 1 + the smallest program whose run has the cell.
--- Assumes nothing.
+-- The cause that marks and slot show, at the end of a batch, is that of the programs' runs: each mark is 1 + the smallest program whose run has the
+-- cell. Assumes nothing.
 use Prim.Native.Nat.{ℕ, ◌+◌, ◌-◌, ◌≤◌, ◌<◌}
 use mathlib.Core.Path.{◌≡◌, refl, sym, ap, ◌∙◌}
 use mathlib.Core.Bool.{Bool, true}
@@ -10,10 +10,8 @@ use Rattle.base.specs.Words.{first, has}
 use Rattle.base.proofs.Members.{has_none}
 use Rattle.base.proofs.Numbers.{first_some, first_is}
 use Rattle.slot.specs.declared.ListKind.{ListKind}
-use Rattle.slot.specs.declared.ListKind.TheVariants.{Reads, Stores}
 use Rattle.slot.specs.Log.{Log, cells_of}
 use Rattle.machine.specs.declared.Run.{Run}
-use Rattle.machine.specs.declared.Run.TheVariants.{Finished, Rejected, Faulted}
 use Rattle.machine.specs.Runs.{keeps, kept}
 use Rattle.area.specs.declared.MarkKind.{MarkKind}
 use Rattle.area.specs.Layout.{marks_at, list_of}

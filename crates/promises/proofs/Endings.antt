@@ -1,20 +1,16 @@
 -- A world on the way, read by the states of its own area: who is gathered and settled in it, and when it is at its end. Assumes nothing.
-use mathlib.Core.Path.{◌≡◌, refl, sym, ap, ◌∙◌}
-use mathlib.Core.Logic.{◌⊎◌, inl, inr}
-use mathlib.Core.Bool.{Bool, true, false, not, ◌&&◌}
+use mathlib.Core.Path.{◌≡◌, sym, ap, ◌∙◌}
+use mathlib.Core.Bool.{Bool, true, not, ◌&&◌}
 use mathlib.Core.List.{List}
-use Prim.Native.Nat.{ℕ, suc, ◌<◌}
+use Prim.Native.Nat.{ℕ, ◌<◌}
 use lib.ListN.{length}
 use native.Mathlib.Omega.{arith}
-use lib.Dec.{leb}
 use borrow.Author.Tests.{eqb-true}
 use Rattle.base.specs.Words.{every}
-use Rattle.base.proofs.Bools.{known, clash, and_both, both_and, nots, no_not, not_true, not_false}
-use Rattle.base.proofs.Numbers.{zero_or, every_at, every_from, every_ext}
+use Rattle.base.proofs.Numbers.{every_at, every_from, every_ext}
 use Rattle.image.specs.Refusals.{passed}
 use Rattle.image.specs.Image.{count_of, refusal_of}
-use Rattle.slot.specs.States.{waiting, gathered, has_run, is_end, is_settled, is_committed, is_carried}
-use Rattle.area.specs.Layout.{state_of}
+use Rattle.slot.specs.States.{has_run, is_end, is_settled, is_committed, is_carried}
 use Rattle.area.specs.Checks.{states_from}
 use Rattle.promises.specs.Paper.{Batch, batch_of, gets_settled}
 use Rattle.promises.specs.Laid.{area_on, world_on, all, paper_world, gathered_in, settled_in}
@@ -38,7 +34,8 @@ module _ (image t g : List ℕ) (e : refusal_of image ≡ passed) (G S : ℕ →
   area = area_on b G S (length t)
 
   -- the area's own states say who is gathered and who is settled
-  pub says_itself : Phased (count_of image) G S → world_on image t g G S ≡ world_on image t g (gathered_in (length t) area) (settled_in (length t) area)
+  pub says_itself : Phased (count_of image) G S
+      → world_on image t g G S ≡ world_on image t g (gathered_in (length t) area) (settled_in (length t) area)
   unfolding Phased
   says_itself phased =
       world_ext image t g G S (gathered_in (length t) area) (settled_in (length t) area)
@@ -52,7 +49,8 @@ module _ (image t g : List ℕ) (e : refusal_of image ≡ passed) (G S : ℕ →
       (every_ext (count_of image) _ _ (λ k l. ap is_end (state_on b G S (length t) (runs_fit image t g e) k l) ∙ by_ended b k (G k) (S k)))
 
   -- it is over exactly when everybody is gathered and everybody who is to be settled is
-  pub over_shows : is_over image (world_on image t g G S) ≡ true → (k : ℕ) → k < count_of image → (G k ≡ true) × (gets_settled b k ≡ true → S k ≡ true)
+  pub over_shows : is_over image (world_on image t g G S) ≡ true → (k : ℕ) → k < count_of image
+      → (G k ≡ true) × (gets_settled b k ≡ true → S k ≡ true)
   over_shows h k l =
       let w = every_at (count_of image) _ (sym ended_is ∙ h) k l in
       (grind arith, λ f. grind arith)

@@ -8,7 +8,7 @@ use lib.ListN.{length, set, length-set}
 use lib.Seq.{set_comm}
 use borrow.Author.Tests.{eqb-true}
 use Rattle.base.specs.Words.{has, meets}
-use Rattle.base.proofs.Bools.{known, and_right}
+use Rattle.base.proofs.Bools.{and_right}
 use Rattle.area.specs.Marks.{store_all}
 use Rattle.promises.specs.Paper.{Batch, write_set, new_values, gets_settled, commits, installed}
 use Rattle.promises.specs.Laid.{table_on}

@@ -1,28 +1,27 @@
 -- The listed order of the paper's batch, with no area in sight: it names each committed program once and nobody else, and under Rule 1 it rises.
 -- Assumes nothing.
-use Prim.Native.Nat.{ℕ, ◌+◌, ◌-◌, ◌<◌}
-use mathlib.Core.Path.{◌≡◌, refl}
-use mathlib.Core.Logic.{◌⊎◌, inl, inr}
-use mathlib.Core.Bool.{Bool, true, false, cond, ◌&&◌}
+use Prim.Native.Nat.{ℕ, ◌+◌, ◌-◌}
+use mathlib.Core.Path.{◌≡◌}
+use mathlib.Core.Bool.{true, false, cond, ◌&&◌}
 use mathlib.Core.List.{List}
 use native.Mathlib.Omega.{arith}
 use lib.Dec.{ltb}
 use lib.ListN.{length}
 use borrow.Author.Tests.{ltb-true, lt-ltb}
-use Rattle.base.specs.Words.{count, has, distinct, meets}
-use Rattle.base.proofs.Bools.{clash, and_both, both_and, same_test}
+use Rattle.base.specs.Words.{count, has, distinct}
+use Rattle.base.proofs.Bools.{and_both, both_and, same_test}
 use Rattle.base.proofs.Counts.{count_le}
 use Rattle.listing.specs.Order.{Ordered, listed, rising}
 use Rattle.listing.proofs.Whole.{listed_members, listed_distinct, listed_ordered, Ranked, listed_whole, length_listed}
 use Rattle.listing.proofs.Rising.{listed_rising}
-use Rattle.promises.specs.Paper.{Batch, read_set, write_set, raw, war, commits}
+use Rattle.promises.specs.Paper.{Batch, read_set, write_set, raw, commits}
 use Rattle.promises.proofs.Conflicts.{commits_not_both, rule1_no_raw, no_raw_upward, no_war_downward}
 
 unfoldable pub paper_order : Batch → List ℕ
 paper_order b = listed b.programs b.programs (λ k. read_set b k) (λ k. write_set b k) (commits b)
 
--- Those with RAW come first, the largest number first, then the others by number: one without RAW reads nothing that an earlier one stores, one without
--- WAR stores nothing that an earlier one reads, and each that commits is without one of them.
+-- Those with RAW come first, the largest number first, then the others by number: one without RAW reads nothing that an earlier one stores, one
+-- without WAR stores nothing that an earlier one reads, and each that commits is without one of them.
 rank : Batch → ℕ → ℕ
 rank b k = cond (raw b k) (b.programs - k) (b.programs + k)
 

@@ -1,22 +1,20 @@
--- The serial run, with no area in sight: in an order where none reads what one before it stores, every program still finds the opening values where it
--- reads, so it runs as it did; and the tables agree because two committed programs never store one cell. Assumes nothing.
+-- The serial run, with no area in sight: in an order where none reads what one before it stores, every program still finds the opening values where
+-- it reads, so it runs as it did; and the tables agree because two committed programs never store one cell. Assumes nothing.
 use Prim.Native.Nat.{ℕ, ◌<◌}
 use mathlib.Core.Path.{◌≡◌, refl, sym, ◌∙◌, ap}
-use mathlib.Core.Logic.{◌⊎◌, inl, inr}
-use mathlib.Core.Bool.{Bool, true, false, not, ◌||◌, ◌&&◌}
+use mathlib.Core.Bool.{Bool, true, false, not, ◌||◌}
 use mathlib.Core.List.{List, [], ◌∷◌, map}
 use native.Mathlib.Omega.{arith}
-use lib.Dec.{eqb, ltb}
+use lib.Dec.{ltb}
 use lib.ListN.{length, get_or, set}
 use lib.Seq.{get_or-set_other}
 use borrow.Author.Tests.{eqb-true, ltb-true}
 use Rattle.base.specs.Words.{has, distinct}
-use Rattle.base.proofs.Bools.{clash, not_true, and_both, nots, or_false}
+use Rattle.base.proofs.Bools.{clash, not_true, and_both}
 use Rattle.base.proofs.Members.{has_head, has_tail, meets_in}
 use Rattle.image.specs.Image.{count_of, part_of}
 use Rattle.slot.specs.Log.{Log}
 use Rattle.machine.specs.declared.Run.{Run}
-use Rattle.machine.specs.declared.Run.TheVariants.{Finished, Rejected, Faulted}
 use Rattle.guard.specs.Guards.{admits}
 use Rattle.machine.specs.Runs.{Outcome, keeps, kept}
 use Rattle.machine.proofs.Laws.{reads_decide}
@@ -25,7 +23,7 @@ use Rattle.steps.specs.Gathering.{run_at}
 use Rattle.listing.specs.Order.{Ordered}
 use Rattle.promises.specs.Paper.{batch_of, read_set, write_set, new_values, commits, installed, table_after}
 use Rattle.promises.specs.Serial.{serial_table, serial_runs}
-use Rattle.promises.proofs.Sets.{nobody, also, also_cases}
+use Rattle.promises.proofs.Sets.{nobody, also}
 use Rattle.promises.proofs.Deciding.{commits_keeps, no_common}
 use Rattle.promises.proofs.Installing.{store_length, installed_none, installed_ext, installed_more}
 use Rattle.promises.proofs.PaperOrder.{paper_order, order_members, order_distinct, order_ordered}
@@ -55,14 +53,15 @@ module _ (image t g : List ℕ) where
       let e = kept_all o.answer o.log (commits_keeps (batch_of image t g) k (w.committing k (has_head k l))) in
       reads_decide (admits g) (part_of image k) t u w.sized (λ c h. w.opening k c (has_head k l) (ap (λ (m : Log). has c m.reads) e ∙ h))
 
-  to_run_next : (k : ℕ) (l u : List ℕ) → ToRun (k ∷ l) u → ToRun l (store_all (write_set (batch_of image t g) k) (new_values (batch_of image t g) k) u)
+  to_run_next : (k : ℕ) (l u : List ℕ) → ToRun (k ∷ l) u
+      → ToRun l (store_all (write_set (batch_of image t g) k) (new_values (batch_of image t g) k) u)
   to_run_next k l u w =
       let b = batch_of image t g in
       record {
         sized = w.sized ∙ sym (store_length (write_set b k) (new_values b k) u);
         opening = λ j c h r.
-            w.opening j c (has_tail j k l h) r
-            ∙ sym (store_other (write_set b k) (new_values b k) u c (not_true (λ s. clash (meets_in c (read_set b j) (write_set b k) r s) (w.ordered.0 j h))));
+            let kept = not_true (λ s. clash (meets_in c (read_set b j) (write_set b k) r s) (w.ordered.0 j h)) in
+            w.opening j c (has_tail j k l h) r ∙ sym (store_other (write_set b k) (new_values b k) u c kept);
         committing = λ j h. w.committing j (has_tail j k l h);
         ordered = w.ordered.1;
       }

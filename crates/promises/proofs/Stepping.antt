@@ -1,20 +1,17 @@
 -- Each call on a world on the way: gathering k leaves the world in which k is gathered too, settling k that in which k is settled too, once everybody
 -- is gathered. A refused call leaves the same world, and then the sets are the same too. Assumes nothing.
-use mathlib.Core.Path.{◌≡◌, refl, sym, ap, ◌∙◌}
-use mathlib.Core.Logic.{◌⊎◌, inl, inr}
+use mathlib.Core.Path.{◌≡◌, refl, ap, ◌∙◌}
 use mathlib.Core.Bool.{Bool, true, false, not, cond, ◌&&◌}
 use mathlib.Core.List.{List}
-use Prim.Native.Nat.{ℕ, suc, ◌≤◌, ◌<◌}
-use native.Mathlib.Decide.{ℕ_discrete}
+use Prim.Native.Nat.{ℕ, ◌≤◌, ◌<◌}
 use native.Mathlib.Omega.{arith}
 use lib.Dec.{eqb, ltb, leb}
 use lib.ListN.{length}
 use borrow.Author.Tests.{eqb-true, ltb-true}
 use Rattle.base.specs.Words.{every}
-use Rattle.base.proofs.Bools.{known, and_left}
-use Rattle.base.proofs.Numbers.{zero_or, every_at, every_ext}
+use Rattle.base.proofs.Bools.{and_left}
+use Rattle.base.proofs.Numbers.{every_at, every_ext}
 use Rattle.image.specs.Limits.{max_cells}
-use Rattle.image.specs.declared.refusals.Refusal.TheVariants as refusal
 use Rattle.image.specs.Refusals.{passed, check, after, unless}
 use Rattle.image.specs.Image.{count_of, part_of, refusal_of}
 use Rattle.image.proofs.Laws.{accepted, part_short}
@@ -23,16 +20,14 @@ use Rattle.slot.specs.States.{waiting, gathered, has_run}
 use Rattle.machine.proofs.Laws.{run_kept}
 use Rattle.area.specs.declared.MarkKind.TheVariants.{Write, Read}
 use Rattle.area.specs.Layout.{state_of}
-use Rattle.area.specs.Marks.{store_all}
 use Rattle.guard.specs.Guards.{admits}
 use Rattle.area.specs.Checks.{call_refusal, open_refusal, states_from, Checked, Paired}
 use Rattle.area.proofs.Checks.{few, passed_good, checked_is, open_shows}
-use Rattle.steps.specs.declared.Settled.TheVariants.{Committed, Carried}
 use Rattle.steps.specs.Gathering.{step_refusal, waits, gather_refusal, gathered_area, gather_area}
 use Rattle.steps.specs.Settling.{is_ready, settle_refusal, verdict, settled_table, settled_area, settle_table, settle_area}
-use Rattle.promises.specs.Paper.{Batch, batch_of, write_set, new_values, gets_settled, commits, reason}
+use Rattle.promises.specs.Paper.{Batch, batch_of, gets_settled}
 use Rattle.promises.specs.Laid.{area_on, table_on}
-use Rattle.promises.proofs.Sets.{also, also_own, also_other}
+use Rattle.promises.proofs.Sets.{also}
 use Rattle.promises.proofs.Deciding.{decision_on, decided_is, decision_state, decision_detail}
 use Rattle.promises.proofs.Installing.{table_length, table_opening, table_ext, table_more}
 use Rattle.promises.proofs.SlotLaws.{state_by, by_started, by_gathered}

@@ -1,15 +1,13 @@
--- Document 02, ask 3: "For a batch made by these calls, prove it of the programs' own runs from the opening table." The conclusions speak of the paper's
--- batch alone. Assumes nothing.
+-- Document 02, ask 3: "For a batch made by these calls, prove it of the programs' own runs from the opening table." The conclusions speak of the
+-- paper's batch alone. Assumes nothing.
 use Prim.Native.Nat.{ℕ, ◌<◌}
 use mathlib.Core.Path.{◌≡◌, refl, sym, ap, ◌∙◌}
-use mathlib.Core.Logic.{◌⊎◌, inl, inr}
-use mathlib.Core.Bool.{true, false, not, cond}
+use mathlib.Core.Bool.{true, false, cond}
 use mathlib.Core.List.{List}
 use native.Mathlib.Omega.{arith}
 use lib.ListN.{length}
 use borrow.Author.Tests.{eq-eqb}
 use Rattle.std.specs.Prelude.{Ok, Err}
-use Rattle.base.proofs.Bools.{known, nots, and_both}
 use Rattle.image.specs.declared.refusals.Refusal.TheVariants as refusal
 use Rattle.image.specs.Refusals.{passed}
 use Rattle.image.specs.Image.{count_of}

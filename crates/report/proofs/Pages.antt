@@ -1,10 +1,9 @@
 -- Laws of an input, its page and what is said beside it: what the tests of the prefix and of the guards and the run of the batch make of it. Assumes nothing.
 use mathlib.Core.Path.{◌≡◌, refl, sym, ap, ◌∙◌}
-use mathlib.Core.Bool.{false, ◌&&◌}
 use mathlib.Core.List.{List, [], ◌++◌}
 use Prim.Native.Nat.{ℕ, ◌≤◌, ◌<◌}
 use native.Mathlib.Omega.{arith}
-use lib.ListN.{length, take, length-append}
+use lib.ListN.{length, get_or, take, length-append}
 use lib.Seq.{length-take-le, take_at}
 use borrow.Author.Tests.{le-leb, lt-leb}
 use Rattle.base.proofs.Tables.{tabulate_length}
@@ -15,8 +14,8 @@ use Rattle.image.specs.declared.refusals.Refusal.TheVariants as refusal
 use Rattle.image.specs.Refusals.{passed}
 use Rattle.image.specs.Image.{count_of}
 use Rattle.image.proofs.Refusing.{Checks, fails, goes_on, none_fails, unless_refused, unless_done}
-use Rattle.guard.specs.Guards.{guard_words, full_range}
-use Rattle.area.specs.Checks.{Paired, Checked}
+use Rattle.guard.specs.Guards.{guard_words}
+use Rattle.area.specs.Checks.{Checked}
 use Rattle.area.proofs.Checks.{open_shows, measured}
 use Rattle.prefix.specs.Prefix.{prefix_bytes}
 use Rattle.input.specs.Prefix.{cells_named, table_in, image_from, prefix_good, cells_of}
@@ -24,10 +23,11 @@ use Rattle.input.proofs.Prefixes.{Whole, cells_none, cells_good, cells_whole}
 use Rattle.refused.specs.Refused.{refused_line, most_refused}
 use Rattle.refused.specs.Where.{image_where}
 use Rattle.refused.proofs.Lines.{refused_short}
+use Rattle.results.proofs.Short.{listing_short}
 use Rattle.reasons.specs.Reasons.{CanTell}
-use Rattle.report.specs.Batch.{lent, work_area, image_start, guards_for, table_of, guards_of, image_of, guards_there, opening_of, input_refusal, batch_of, Told, page_of, page_most, said}
+use Rattle.reasons.proofs.Short.{WordsOf, page_short}
+use Rattle.report.specs.Batch.{lent, work_area, image_start, table_of, guards_of, image_of, guards_there, opening_of, input_refusal, batch_of, Told, page_of, page_text, page_most, said}
 use Rattle.report.specs.declared.Guards.{Guards}
-use Rattle.report.specs.declared.Guards.TheVariants.{FullRange}
 use Rattle.report.specs.declared.Wanted.{Wanted}
 use Rattle.report.specs.declared.Wanted.TheVariants.{Results, Reasons}
 use Rattle.report.specs.Runs.{RunsTable, Refuses, Settles}
@@ -95,6 +95,13 @@ page_holds Results = omega arith
 page_holds Reasons = omega arith
 
 pub ruleset rooms = (common_steps, refused_short, page_holds)
+
+-- and the page that is wanted is short: bytes have 8 bits and words 32
+pub wanted_short : (wanted : Wanted) {image opening t g a : List ℕ} → CanTell image opening t g a → ((i : ℕ) → get_or image i 0 < 256) → WordsOf opening → WordsOf t → WordsOf g
+    → WordsOf a → length (page_text wanted image opening t g a) ≤ page_most wanted
+wanted_short Results tell bytes cells table ends words =
+    let m = tell.measured in listing_short _ _ _ _ m.programs_few m.cells_few (record { word = table }) (record { word = words })
+wanted_short Reasons tell bytes cells table ends words = page_short _ _ _ _ _ tell bytes cells ends words
 
 module _ (page : Told) (from : Guards) (input : List ℕ) where
   -- of a batch that was run
