@@ -65,12 +65,6 @@ module _ (at count : ℕ) (a : List ℕ) where
   unfolding words
   lent_words = let e : at + count - at ≡ count = omega arith in rw e
 
-  pub lent_word : at + count ≤ length a → (i : ℕ) → i < length (take (at + count - at) (drop at a))
-      → (i < count) × (get_or (take (at + count - at) (drop at a)) i 0 ≡ get_or a (at + i) 0)
-  lent_word lies i l =
-      let h : i < count = rw (lent_words, words_length at count a lies) at l in
-      (h, rw lent_words (words_at at count a i h))
-
   -- all of them pass a test
   pub all_lent : at + count ≤ length a → (test : ℕ → Bool) → list_all test (words at count a) ≡ every count (λ i. test (get_or a (at + i) 0))
   all_lent lies test = same_test (λ e. every_from count _ (λ i l. rw (words_at at count a i l) at (each e i l))) (λ e. all (every_at count _ e))

@@ -9,16 +9,15 @@ use lib.Dec.{ltb}
 use lib.ListN.{length, get_or}
 use borrow.Author.Tests.{ltb-true, ltb-false, lt-ltb}
 use Rattle.base.specs.Words.{has, words}
-use Rattle.std.specs.Prelude.{Some, None}
-use Rattle.base.proofs.Bools.{known, clash, and_both, both_and, same_test}
+use Rattle.base.proofs.Bools.{clash, and_both, both_and, same_test}
 use Rattle.base.proofs.Leasts.{Smallest, least_smallest, is_least}
 use Rattle.base.proofs.Members.{has_get_or}
-use Rattle.base.proofs.Numbers as numbers
+use Rattle.base.proofs.Numbers.{below}
 use Rattle.base.proofs.Parts.{words_length, words_at, words_has}
 use Rattle.slot.specs.declared.ListKind.{ListKind}
 use Rattle.area.specs.declared.MarkKind.{MarkKind}
 use Rattle.area.specs.Layout.{marks_at, count_at, list_at, list_of}
-use Rattle.area.specs.Marks.{earlier, depends, shows, lowest_of, lower_cell, lowest, below}
+use Rattle.area.specs.Marks.{earlier, depends, shows, lowest_of, lower_cell, lowest}
 use Rattle.area.specs.Checks.{Slotted}
 use Rattle.area.proofs.Marks.{earlier_is, is_earlier, hit_in, hit_out}
 
@@ -37,7 +36,7 @@ module _ (at i : ℕ) (a : List ℕ) (lies : at + i < length a) where
   older c h = let w = words_has at i a c h in rw w.2 at (has_word at (i + 1) a (omega arith) w.0 (omega (arith, w.1)))
 
   either : (c : ℕ) → has c (words at (i + 1) a) ≡ true → (c ≡ get_or a (at + i) 0) ⊎ (has c (words at i a) ≡ true)
-  either c h = let w = words_has at (i + 1) a c h in go w.0 w.2 (numbers.below w.0 i (omega (arith, w.1)))
+  either c h = let w = words_has at (i + 1) a c h in go w.0 w.2 (below w.0 i (omega (arith, w.1)))
     where
       go : (j : ℕ) → get_or a (at + j) 0 ≡ c → (j ≡ i) ⊎ (j < i) → (c ≡ get_or a (at + i) 0) ⊎ (has c (words at i a) ≡ true)
       go j e (inl q) = inl (rw q at (sym e))
@@ -130,21 +129,3 @@ module _ (l : ListKind) (m : MarkKind) (T k : ℕ) (a : List ℕ) where
         back e =
             let w = lowest_shows (ltb-true (lowest l m T k a) T e) in
             hit_in (marks_at m T) (list_of l T k a) k a (lowest l m T k a) w.0 (is_earlier _ k w.1 w.2)
-
--- ---- as a call answers it
-
--- the answer is a cell: it is the lowest, and the program depends on it
-pub below_some : {T v c : ℕ} → below T v ≡ Some c → (v ≡ c) × (v < T)
-below_some {T} {v} {c} e = go (known (ltb v T))
-  where
-    go : (ltb v T ≡ true) ⊎ (ltb v T ≡ false) → (v ≡ c) × (v < T)
-    go (inl t) = let f : Some v ≡ Some c = rw t at e in (cc, ltb-true v T t)
-    go (inr t) = let f : None ≡ Some c = rw t at e in absurd (cc)
-
--- there is none
-pub below_none : {T v : ℕ} → below T v ≡ None → T ≤ v
-below_none {T} {v} e = go (known (ltb v T))
-  where
-    go : (ltb v T ≡ true) ⊎ (ltb v T ≡ false) → T ≤ v
-    go (inl t) = let f : Some v ≡ None = rw t at e in absurd (cc)
-    go (inr t) = ltb-false v T t

@@ -1,9 +1,9 @@
 -- Arguments and what is said of them, tried by computation on the definitions. The numbers are literals. Assumes nothing.
-use Rattle.std.proofs.Common.{◌≡◌, [], ◌∷◌, ◌++◌, map, replicate, pos, neg_ℤ, refl}
+use Rattle.std.proofs.Common.{◌≡◌, [], ◌∷◌, ◌++◌, map, replicate, pos, neg_ℤ, Ok, Err, refl}
 use Rattle.text.specs.Ascii.{ascii}
 use Rattle.guard.specs.Signed.{signed}
 use Rattle.arguments.specs.declared.Kind.TheVariants.{Cells, Ends}
-use Rattle.arguments.specs.declared.Reading.TheVariants.{Word, Over, Under, NoWord}
+use Rattle.arguments.specs.declared.NoWord.TheVariants.{Over, Under, NoNumber}
 use Rattle.arguments.specs.Readings.{reading, typed}
 use Rattle.arguments.specs.Words.{count_words, shown_word, argument_words, with_word}
 use Rattle.arguments.specs.Opened.{opened}
@@ -12,31 +12,31 @@ use Rattle.arguments.specs.Opened.{opened}
 
 -- a cell: the smallest, the largest, and one more; "no leading zeros", no sign, nothing at all
 cells_are : map (reading Cells) (ascii "0" ∷ ascii "4294967295" ∷ ascii "4294967296" ∷ ascii "07" ∷ ascii "-1" ∷ ascii "-0" ∷ ascii "+5" ∷ [] ∷ [])
-    ≡ Word 0 ∷ Word 4294967295 ∷ Over ∷ NoWord ∷ NoWord ∷ NoWord ∷ NoWord ∷ NoWord ∷ []
+    ≡ Ok 0 ∷ Ok 4294967295 ∷ Err Over ∷ Err NoNumber ∷ Err NoNumber ∷ Err NoNumber ∷ Err NoNumber ∷ Err NoNumber ∷ []
 unfolding opened
 cells_are = refl
 
 -- an end: -20 and 45, -1 and 0, the two ends of the full range, and one beyond each
 ends_are : map (reading Ends) (ascii "-20" ∷ ascii "45" ∷ ascii "-1" ∷ ascii "0" ∷ ascii "-2147483648" ∷ ascii "2147483647" ∷ ascii "-2147483649" ∷ ascii "2147483648" ∷ [])
-    ≡ Word 4294967276 ∷ Word 45 ∷ Word 4294967295 ∷ Word 0 ∷ Word 2147483648 ∷ Word 2147483647 ∷ Under ∷ Over ∷ []
+    ≡ Ok 4294967276 ∷ Ok 45 ∷ Ok 4294967295 ∷ Ok 0 ∷ Ok 2147483648 ∷ Ok 2147483647 ∷ Err Under ∷ Err Over ∷ []
 unfolding opened
 ends_are = refl
 
 -- "-0 is 0"
-no_below_zero : reading Ends (ascii "-0") ≡ Word 0
+no_below_zero : reading Ends (ascii "-0") ≡ Ok 0
 unfolding opened
 no_below_zero = refl
 
 -- a minus alone, two of them, one behind the number, nothing at all, leading zeros, a plus, blanks, another base
 no_ends : map (reading Ends)
     (ascii "-" ∷ ascii "--5" ∷ ascii "5-" ∷ [] ∷ ascii "007" ∷ ascii "-07" ∷ ascii "-00" ∷ ascii "+5" ∷ ascii "- 5" ∷ ascii " -5" ∷ ascii "-5x" ∷ ascii "0x5" ∷ [])
-    ≡ NoWord ∷ NoWord ∷ NoWord ∷ NoWord ∷ NoWord ∷ NoWord ∷ NoWord ∷ NoWord ∷ NoWord ∷ NoWord ∷ NoWord ∷ NoWord ∷ []
+    ≡ Err NoNumber ∷ Err NoNumber ∷ Err NoNumber ∷ Err NoNumber ∷ Err NoNumber ∷ Err NoNumber ∷ Err NoNumber ∷ Err NoNumber ∷ Err NoNumber ∷ Err NoNumber ∷ Err NoNumber ∷ Err NoNumber ∷ []
 unfolding opened
 no_ends = refl
 
 -- numbers of many digits, with and without a minus
 far_ends : map (reading Ends) (ascii "4294967295" ∷ ascii "99999999999999999999" ∷ ascii "-4294967296" ∷ ascii "-99999999999999999999" ∷ [])
-    ≡ Over ∷ Over ∷ Under ∷ Under ∷ []
+    ≡ Err Over ∷ Err Over ∷ Err Under ∷ Err Under ∷ []
 unfolding opened
 far_ends = refl
 
@@ -74,12 +74,12 @@ ends_counted = refl
 
 -- ---- what is said of one
 
-of_cells : map (λ x. argument_words Cells x 2 (ascii "1x")) (Word 1 ∷ Over ∷ NoWord ∷ [])
+of_cells : map (λ x. argument_words Cells x 2 (ascii "1x")) (Ok 1 ∷ Err Over ∷ Err NoNumber ∷ [])
     ≡ [] ∷ ascii "argument 2 is over 4294967295: 1x" ∷ ascii "argument 2 is no number: 1x" ∷ []
 unfolding opened
 of_cells = refl
 
-of_ends : map (λ x. argument_words Ends x 512 (ascii "1x")) (Word 1 ∷ Over ∷ Under ∷ NoWord ∷ [])
+of_ends : map (λ x. argument_words Ends x 512 (ascii "1x")) (Ok 1 ∷ Err Over ∷ Err Under ∷ Err NoNumber ∷ [])
     ≡ []
     ∷ ascii "argument 512 is over 2147483647: 1x"
     ∷ ascii "argument 512 is under -2147483648: 1x"
@@ -95,7 +95,7 @@ unfolding opened
 lines = refl
 
 -- a word goes into the list, and what is none leaves it
-in_the_list : map (λ x. with_word x (5 ∷ 6 ∷ 7 ∷ []) 1) (Word 4294967295 ∷ Over ∷ Under ∷ NoWord ∷ [])
+in_the_list : map (λ x. with_word x (5 ∷ 6 ∷ 7 ∷ []) 1) (Ok 4294967295 ∷ Err Over ∷ Err Under ∷ Err NoNumber ∷ [])
     ≡ (5 ∷ 4294967295 ∷ 7 ∷ []) ∷ (5 ∷ 6 ∷ 7 ∷ []) ∷ (5 ∷ 6 ∷ 7 ∷ []) ∷ (5 ∷ 6 ∷ 7 ∷ []) ∷ []
 unfolding opened
 in_the_list = refl

@@ -1,43 +1,26 @@
 -- Laws of an argument as a word of its kind: it is the number that was typed, every word can be typed, and it is short. Assumes nothing.
-use Rattle.std.proofs.Common.{◌≡◌, ℕ, zero, suc, ◌-◌, ◌^◌, ◌<◌, ◌≤◌, Bool, true, false, cond, eqb, ltb, leb, List, [], ◌∷◌, length, get_or, take, drop, ℤ, pos, negsuc, neg_ℤ, sym, refl, ap, ◌∙◌, subst, arith, length-drop, take_all, ltb-false, ltb-true, le-ltb, lt-ltb, ne_eqb, le-leb, leb-true}
+use Rattle.std.proofs.Common.{◌≡◌, ℕ, zero, suc, ◌-◌, ◌^◌, ◌<◌, ◌≤◌, Bool, true, false, cond, ltb, leb, List, [], ◌∷◌, length, drop, ℤ, pos, negsuc, neg_ℤ, Result, Ok, Err, refl, ap, ◌∙◌, subst, arith, length-drop, ltb-false, ltb-true, le-ltb, lt-ltb, ne_eqb, le-leb, leb-true}
 use lib.IntN.{sub_ℕ}
-use Rattle.text.specs.declared.Numeral.{Numeral}
-use Rattle.text.specs.declared.Numeral.TheVariants.{Number, TooLarge, NoNumber}
+use Rattle.text.specs.declared.Misread.{Misread}
+use Rattle.text.specs.declared.Misread.TheVariants as misread
 use Rattle.text.specs.Decimal.{decimal, is_digit, all_digits, is_number, value, numeral}
 use Rattle.text.proofs.Decimals.{one_way, decimal_short, decimal_number, decimal_digits, decimal_value, digit_is}
 use Rattle.base.proofs.Bools.{clash, and_both}
 use Rattle.guard.specs.Signed.{signed, lowest, highest}
 use Rattle.arguments.specs.declared.Kind.{Kind}
 use Rattle.arguments.specs.declared.Kind.TheVariants.{Cells, Ends}
-use Rattle.arguments.specs.declared.Reading.{Reading}
-use Rattle.arguments.specs.declared.Reading.TheVariants.{Word, Over, Under, NoWord}
+use Rattle.arguments.specs.declared.NoWord.{NoWord}
 use Rattle.arguments.specs.Kinds.{largest}
 use Rattle.arguments.specs.Readings.{minus, negative, negated, upwards, downwards, reading, typed}
 
--- ---- the first byte
-
-pub no_byte : (word : List ℕ) → length word ≡ 0 → false ≡ eqb (get_or word 0 0) minus
-no_byte [] e = refl
-no_byte (b ∷ bs) e = absurd (omega (arith, e))
-
-pub negative_long : (kind : Kind) (word : List ℕ) → negative kind word ≡ true → 1 ≤ length word
-unfolding negative
-negative_long Cells word e = clash e refl
-negative_long Ends [] e = clash e refl
-negative_long Ends (b ∷ bs) e = omega arith
-
--- ---- the cases that the code tells apart
+-- ---- a minus stands before the number or not
 
 module _ (kind : Kind) (word : List ℕ) where
   read_negative : negative kind word ≡ true → reading kind word ≡ downwards (numeral lowest (drop 1 word))
   unfolding reading
   read_negative e = rw e
 
-  -- the part behind the minus goes to the end
-  pub read_behind : negative kind word ≡ true → downwards (numeral lowest (take (length word - 1) (drop 1 word))) ≡ reading kind word
-  read_behind e = rw (take_all (length word - 1) (drop 1 word) (omega (arith, length-drop 1 word))) (sym (read_negative e))
-
-  pub read_other : negative kind word ≡ false → reading kind word ≡ upwards (numeral (largest kind) word)
+  read_other : negative kind word ≡ false → reading kind word ≡ upwards (numeral (largest kind) word)
   unfolding reading
   read_other e = rw e
 
@@ -48,16 +31,15 @@ record UpTo (most : ℕ) (word : List ℕ) (n : ℕ) : Type 0 where
   pub low : n ≤ most
   pub shows : decimal n ≡ word
 
-abbrev KnownUpTo : ℕ → List ℕ → Numeral → Type 0
-KnownUpTo most word (Number n) = UpTo most word n
-KnownUpTo most word TooLarge = Unit {0}
-KnownUpTo most word NoNumber = Unit {0}
+abbrev KnownUpTo : ℕ → List ℕ → Result ℕ Misread → Type 0
+KnownUpTo most word (Ok n) = UpTo most word n
+KnownUpTo most word (Err e) = Unit {0}
 
 known_up_to : (most : ℕ) (word : List ℕ) → KnownUpTo most word (numeral most word)
 unfolding numeral
 known_up_to most word = go (is_number word) (leb (value word) most) refl refl
   where
-    go : (a b : Bool) → is_number word ≡ a → leb (value word) most ≡ b → KnownUpTo most word (cond a (cond b (Number (value word)) TooLarge) NoNumber)
+    go : (a b : Bool) → is_number word ≡ a → leb (value word) most ≡ b → KnownUpTo most word (cond a (cond b (Ok (value word)) (Err misread.TooLarge)) (Err misread.NoNumber))
     go true true e f = record { is = refl; low = leb-true (value word) most f; shows = one_way word e }
     go true false e f = tt
     go false b e f = tt
@@ -93,33 +75,31 @@ record Known (kind : Kind) (word : List ℕ) (w : ℕ) : Type 0 where
   pub is : IsTyped kind word w
   pub short : length word ≤ 11
 
-abbrev KnownAs : Kind → List ℕ → Reading → Type 0
-KnownAs kind word (Word w) = Known kind word w
-KnownAs kind word Over = Unit {0}
-KnownAs kind word Under = Unit {0}
-KnownAs kind word NoWord = Unit {0}
+abbrev KnownAs : Kind → List ℕ → Result ℕ NoWord → Type 0
+KnownAs kind word (Ok w) = Known kind word w
+KnownAs kind word (Err none) = Unit {0}
 
-down : (word : List ℕ) → negative Ends word ≡ true → (x : Numeral) → KnownUpTo lowest (drop 1 word) x → KnownAs Ends word (downwards x)
+down : (word : List ℕ) → negative Ends word ≡ true → (x : Result ℕ Misread) → KnownUpTo lowest (drop 1 word) x → KnownAs Ends word (downwards x)
 unfolding downwards
-down word e (Number n) k =
+down word e (Ok n) k =
     record {
       is = below_zero n k.low ∙ rw (typed_negative word e, k.is);
       short = omega (arith, decimal_short n (omega (arith, k.low)), ap length k.shows, length-drop 1 word);
     }
-down word e TooLarge k = tt
-down word e NoNumber k = tt
+down word e (Err misread.TooLarge) k = tt
+down word e (Err misread.NoNumber) k = tt
 
-up : (kind : Kind) (word : List ℕ) → negative kind word ≡ false → (x : Numeral) → KnownUpTo (largest kind) word x → KnownAs kind word (upwards x)
+up : (kind : Kind) (word : List ℕ) → negative kind word ≡ false → (x : Result ℕ Misread) → KnownUpTo (largest kind) word x → KnownAs kind word (upwards x)
 unfolding upwards
-up Cells word e (Number n) k =
+up Cells word e (Ok n) k =
     record { is = k.is; short = omega (arith, decimal_short n (omega (arith, k.low)), ap length k.shows) }
-up Ends word e (Number n) k =
+up Ends word e (Ok n) k =
     record {
       is = not_negative n k.low ∙ rw (typed_other word e, k.is);
       short = omega (arith, decimal_short n (omega (arith, k.low)), ap length k.shows);
     }
-up kind word e TooLarge k = tt
-up kind word e NoNumber k = tt
+up kind word e (Err misread.TooLarge) k = tt
+up kind word e (Err misread.NoNumber) k = tt
 
 no_minus : (word : List ℕ) → negative Cells word ≡ true → ⊥
 unfolding negative
@@ -135,18 +115,18 @@ known_as kind word = go kind (negative kind word) refl
     go Ends true e = down word e (numeral lowest (drop 1 word)) (known_up_to lowest (drop 1 word))
     go kind false e = up kind word e (numeral (largest kind) word) (known_up_to (largest kind) word)
 
-known : (kind : Kind) (word : List ℕ) {w : ℕ} → reading kind word ≡ Word w → Known kind word w
+known : (kind : Kind) (word : List ℕ) {w : ℕ} → reading kind word ≡ Ok w → Known kind word w
 known kind word e = subst (KnownAs kind word) e (known_as kind word)
 
 -- every argument that is taken is written as the word that is the number that was typed
-pub cell_is_typed : (word : List ℕ) {w : ℕ} → reading Cells word ≡ Word w → w ≡ value word
+pub cell_is_typed : (word : List ℕ) {w : ℕ} → reading Cells word ≡ Ok w → w ≡ value word
 cell_is_typed word e = (known Cells word e).is
 
-pub end_is_typed : (word : List ℕ) {w : ℕ} → reading Ends word ≡ Word w → signed w ≡ typed word
+pub end_is_typed : (word : List ℕ) {w : ℕ} → reading Ends word ≡ Ok w → signed w ≡ typed word
 end_is_typed word e = (known Ends word e).is
 
 -- and has at most 11 bytes: so one of which only the first bytes could be read is none, whatever follows
-pub word_short : (kind : Kind) (word : List ℕ) {w : ℕ} → reading kind word ≡ Word w → length word ≤ 11
+pub word_short : (kind : Kind) (word : List ℕ) {w : ℕ} → reading kind word ≡ Ok w → length word ≤ 11
 word_short kind word e = (known kind word e).short
 
 -- ---- every word can be typed
@@ -161,29 +141,29 @@ unfolding negative all_digits
 no_sign [] h = refl
 no_sign (b ∷ bs) h = let d = digit_is b (and_both (is_digit b) (all_digits bs) h).0 in ne_eqb b minus (λ e. omega (arith, d.0, e))
 
-read_decimal : (most n : ℕ) → n ≤ most → numeral most (decimal n) ≡ Number n
+read_decimal : (most n : ℕ) → n ≤ most → numeral most (decimal n) ≡ Ok n
 unfolding numeral
 read_decimal most n h = rw (decimal_number n, decimal_value n, le-leb n most h)
 
-read_up : (kind : Kind) (n : ℕ) → n ≤ largest kind → negative kind (decimal n) ≡ false → reading kind (decimal n) ≡ Word n
+read_up : (kind : Kind) (n : ℕ) → n ≤ largest kind → negative kind (decimal n) ≡ false → reading kind (decimal n) ≡ Ok n
 unfolding upwards
 read_up kind n h e = read_other kind (decimal n) e ∙ rw (read_decimal (largest kind) n h)
 
-read_down : (n : ℕ) → n ≤ lowest → reading Ends (minus ∷ decimal n) ≡ Word (negated n)
+read_down : (n : ℕ) → n ≤ lowest → reading Ends (minus ∷ decimal n) ≡ Ok (negated n)
 unfolding downwards negative
 read_down n h = read_negative Ends (minus ∷ decimal n) refl ∙ rw (read_decimal lowest n h)
 
-pub every_cell : (w : ℕ) → w < 2 ^ 32 → reading Cells (decimal w) ≡ Word w
+pub every_cell : (w : ℕ) → w < 2 ^ 32 → reading Cells (decimal w) ≡ Ok w
 unfolding negative
 every_cell w h = read_up Cells w (omega (arith, h)) refl
 
-pub every_end : (w : ℕ) → w < 2 ^ 32 → reading Ends (text_of (signed w)) ≡ Word w
+pub every_end : (w : ℕ) → w < 2 ^ 32 → reading Ends (text_of (signed w)) ≡ Ok w
 unfolding signed
 every_end w h = go (ltb w (2 ^ 31)) refl
   where
-    go : (b : Bool) → ltb w (2 ^ 31) ≡ b → reading Ends (text_of (cond b (pos w) (sub_ℕ w (2 ^ 32)))) ≡ Word w
+    go : (b : Bool) → ltb w (2 ^ 31) ≡ b → reading Ends (text_of (cond b (pos w) (sub_ℕ w (2 ^ 32)))) ≡ Ok w
     go true e = read_up Ends w (omega (arith, ltb-true w (2 ^ 31) e)) (no_sign (decimal w) (decimal_digits w))
     go false e =
         let l = ltb-false w (2 ^ 31) e in
         let f : negated (suc (2 ^ 32 - suc w)) ≡ w = omega (arith, l, h) in
-        rw (lt-ltb w (2 ^ 32) h) (read_down (suc (2 ^ 32 - suc w)) (omega (arith, l)) ∙ ap Word f)
+        rw (lt-ltb w (2 ^ 32) h) (read_down (suc (2 ^ 32 - suc w)) (omega (arith, l)) ∙ ap (λ (v : ℕ). Ok v) f)

@@ -1,8 +1,8 @@
 -- What the programs `cells` and `guards` say where they write nothing: the words of one line, behind the program's name. Assumes nothing.
-use Rattle.std.specs.Prelude.{◌≡◌, ℕ, ◌+◌, ◌/◌, ◌%◌, min, Bool, cond, ◌&&◌, List, [], ◌∷◌, ◌++◌, length, ◌==◌, nat_le, slice_index, slice_set, Result, Ok, Err}
+use Rattle.std.specs.Prelude.{◌≡◌, ℕ, ◌+◌, ◌/◌, ◌%◌, min, Bool, cond, ◌&&◌, List, [], ◌∷◌, ◌++◌, length, map, take, ◌==◌, nat_le, slice_set, Result, Ok, Err}
 use Rattle.text.specs.Ascii.{ascii}
 use Rattle.text.specs.Decimal.{decimal}
-use Rattle.text.specs.Filled.{filled, texts}
+use Rattle.text.specs.Filled.{filled}
 use Rattle.text.specs.Writing.{PageSays}
 use Rattle.image.specs.Limits.{min_cells, max_cells}
 use Rattle.guard.specs.Signed.{lowest}
@@ -23,15 +23,12 @@ unfoldable pub none_words : Kind → List ℕ
 none_words kind = filled (none_text kind) (min_cells ∷ max_cells ∷ [])
 
 -- so many of a kind
-abbrev pub noun : Kind → List ℕ
+unfoldable pub noun : Kind → List ℕ
 noun Cells = ascii " cells"
 noun Ends = ascii " ends"
 
-unfoldable pub counted : Kind → (count : ℕ) → List ℕ
-counted kind count = decimal count ++ noun kind
-
 unfoldable pub many_words : Kind → (count : ℕ) → List ℕ
-many_words kind count = counted kind count ++ filled (ascii ", and a table has at most #") (most_arguments kind ∷ [])
+many_words kind count = decimal count ++ noun kind ++ filled (ascii ", and a table has at most #") (most_arguments kind ∷ [])
 
 -- cells are numbered from 0
 unfoldable pub odd_words : (count : ℕ) → List ℕ
@@ -51,36 +48,24 @@ count_words kind count =
 unfoldable pub shown_byte : ℕ → ℕ
 shown_byte b = cond (nat_le 32 b && nat_le b 126) b 63
 
-unfoldable pub byte_of : (word : List ℕ) (k : ℕ) → List ℕ
-byte_of word k = shown_byte (slice_index word k) ∷ []
-
 -- an argument as it is shown: at most so many of its bytes
 abbrev pub most_shown : ℕ
 most_shown = 40
 
 unfoldable pub shown_word : List ℕ → List ℕ
-shown_word word = texts (byte_of word) (min (length word) most_shown) ++ cond (nat_le (length word) most_shown) [] (ascii "...")
+shown_word word = map shown_byte (take (min (length word) most_shown) word) ++ cond (nat_le (length word) most_shown) [] (ascii "...")
 
--- a text with numbers in it, and behind it the argument
-unfoldable pub about : (text numbers word : List ℕ) → List ℕ
-about text numbers word = filled text numbers ++ shown_word word
+-- why it is no word, of the argument at a place, from 1
+unfoldable pub no_word_text : Kind → NoWord → (place : ℕ) → List ℕ
+no_word_text kind Over place = filled (ascii "argument # is over #: ") (place ∷ largest kind ∷ [])
+no_word_text kind Under place = filled (ascii "argument # is under -#: ") (place ∷ lowest ∷ [])
+no_word_text kind NoNumber place = filled (ascii "argument # is no number: ") (place ∷ [])
 
--- of the argument at a place, from 1
-unfoldable pub over_words : Kind → (place : ℕ) (word : List ℕ) → List ℕ
-over_words kind place word = about (ascii "argument # is over #: ") (place ∷ largest kind ∷ []) word
-
-unfoldable pub under_words : (place : ℕ) (word : List ℕ) → List ℕ
-under_words place word = about (ascii "argument # is under -#: ") (place ∷ lowest ∷ []) word
-
-unfoldable pub no_number_words : (place : ℕ) (word : List ℕ) → List ℕ
-no_number_words place word = about (ascii "argument # is no number: ") (place ∷ []) word
+-- and behind it the argument
+unfoldable pub no_word_words : Kind → NoWord → (place : ℕ) (word : List ℕ) → List ℕ
+no_word_words kind none place word = no_word_text kind none place ++ shown_word word
 
 -- by what word it is: nothing is said of one that is a word
-unfoldable pub no_word_words : Kind → NoWord → (place : ℕ) (word : List ℕ) → List ℕ
-no_word_words kind Over place word = over_words kind place word
-no_word_words kind Under place word = under_words place word
-no_word_words kind NoNumber place word = no_number_words place word
-
 unfoldable pub argument_words : Kind → Result ℕ NoWord → (place : ℕ) (word : List ℕ) → List ℕ
 argument_words kind (Ok w) place word = []
 argument_words kind (Err none) place word = no_word_words kind none place word

@@ -2,16 +2,15 @@
 // bytes. All that differs between the two programs is told by the kind of their arguments.
 #![tactic(auto)]
 
-ghost use Rattle.std.specs.Prelude.{◌≡◌, ◌<◌, ◌≤◌, min, length, replicate, ◌==◌, slice_index};
+ghost use Rattle.std.specs.Prelude.{◌≡◌, ◌<◌, ◌≤◌, length, map, ◌==◌, slice_index};
 ghost use Rattle.text.specs.Decimal.{numeral};
-ghost use Rattle.text.specs.Filled.{texts};
 ghost use Rattle.text.specs.Writing.{PageSays};
 ghost use Rattle.text.specs.Paper.{Put, Fits};
 ghost use Rattle.guard.specs.Signed.{lowest};
 ghost use Rattle.arguments.specs.Kinds.{per_cell, most_arguments, largest};
 ghost use Rattle.arguments.specs.Readings.{minus, negative, negated, upwards, downwards, reading};
 ghost use Rattle.arguments.specs.Words.{none_words, noun, many_words, odd_words, whole_cells, count_words};
-ghost use Rattle.arguments.specs.Words.{shown_byte, byte_of, shown_word, no_word_words, most_words, ArgumentSays};
+ghost use Rattle.arguments.specs.Words.{shown_byte, shown_word, no_word_text, no_word_words, most_words, ArgumentSays};
 
 use text::{Misread, Page};
 
@@ -66,6 +65,7 @@ fn minus_first(word: &[u8]) -> bool
 }
 
 // Whether a minus stands before the number.
+#[tactic(auto, unfolding(crate::specs::Readings::negative))]
 fn negative(kind: Kind, word: &[u8]) -> bool
     ensures { result ≡ negative kind word.now }
 {
@@ -79,10 +79,11 @@ fn negative(kind: Kind, word: &[u8]) -> bool
 fn negated(n: u32) -> u32
     ensures { result ≡ negated n }
 {
-    std::num::wrapping_sub_u32(0, n)
+    n.wrapping_neg()
 }
 
 // A number as a word.
+#[tactic(auto, unfolding(crate::specs::Readings::upwards))]
 fn upwards(word: &[u8], largest: u32) -> Result<u32, NoWord>
     ensures { result ≡ upwards (numeral largest word.now) }
 {
@@ -94,6 +95,7 @@ fn upwards(word: &[u8], largest: u32) -> Result<u32, NoWord>
 }
 
 // The number behind a minus as a word.
+#[tactic(auto, unfolding(crate::specs::Readings::downwards))]
 fn downwards(word: &[u8]) -> Result<u32, NoWord>
     ensures { result ≡ downwards (numeral lowest word.now) }
 {
@@ -105,6 +107,7 @@ fn downwards(word: &[u8]) -> Result<u32, NoWord>
 }
 
 // An argument as a word of its kind.
+#[tactic(auto, unfolding(crate::specs::Readings::reading, crate::specs::Readings::negative))]
 fn read(kind: Kind, word: &[u8]) -> Result<u32, NoWord>
     ensures { result ≡ reading kind word.now }
 {
@@ -120,6 +123,7 @@ fn read(kind: Kind, word: &[u8]) -> Result<u32, NoWord>
 pub const MOST: usize = 100;
 
 // There is none.
+#[tactic(auto, unfolding(crate::specs::Words::none_words))]
 fn put_none(page: &mut Page, kind: Kind)
     requires { Fits page.old (none_words kind) }
     ensures { Put page.old (none_words kind) page.new }
@@ -134,6 +138,7 @@ fn put_none(page: &mut Page, kind: Kind)
     }
 }
 
+#[tactic(auto, unfolding(crate::specs::Words::noun))]
 fn put_noun(page: &mut Page, kind: Kind)
     requires { Fits page.old (noun kind) }
     ensures { Put page.old (noun kind) page.new }
@@ -145,16 +150,21 @@ fn put_noun(page: &mut Page, kind: Kind)
 }
 
 // There are too many.
+#[tactic(auto, unfolding(crate::specs::Words::many_words))]
 fn put_many(page: &mut Page, kind: Kind, count: usize)
     requires { Fits page.old (many_words kind count) }
     ensures { Put page.old (many_words kind count) page.new }
 {
     page.decimal(count as u64);
     put_noun(page, kind);
-    page.filled(b", and a table has at most #", &[most_arguments(kind) as u32]);
+    page.filled(
+        b", and a table has at most #",
+        &[most_arguments(kind) as u32],
+    );
 }
 
 // There is a low end without its high one.
+#[tactic(auto, unfolding(crate::specs::Words::odd_words))]
 fn put_odd(page: &mut Page, count: usize)
     requires { (count ≤ most_arguments Kind.Ends) × Fits page.old (odd_words count) }
     ensures { Put page.old (odd_words count) page.new }
@@ -166,6 +176,7 @@ fn put_odd(page: &mut Page, count: usize)
 }
 
 // Whether each cell has all of its arguments.
+#[tactic(auto, unfolding(crate::specs::Words::whole_cells))]
 fn whole_cells(kind: Kind, count: usize) -> bool
     ensures { result ≡ whole_cells kind count }
 {
@@ -173,6 +184,7 @@ fn whole_cells(kind: Kind, count: usize) -> bool
 }
 
 // So many arguments: nothing is said where that is a number of them that is good.
+#[tactic(auto, using(text::proofs::Pages::page_done, crate::proofs::Said::none_short, crate::proofs::Said::many_short, crate::proofs::Said::odd_short), unfolding(crate::specs::Words::count_words))]
 pub fn put_count(kind: Kind, out: &mut [u8], count: usize) -> usize
     requires { most_words ≤ length out.old }
     ensures { PageSays (count_words kind count) out.old result out.new }
@@ -191,16 +203,14 @@ pub fn put_count(kind: Kind, out: &mut [u8], count: usize) -> usize
 // ---- what is said of one
 
 // A byte as it is shown: one that is no letter, digit or sign of ASCII as a question mark.
+#[tactic(auto, unfolding(crate::specs::Words::shown_byte))]
 fn shown_byte(byte: u8) -> u8
     ensures { result ≡ shown_byte byte }
 {
-    if byte < 32 {
-        return b'?';
+    match byte {
+        b' '..=b'~' => byte,
+        _ => b'?',
     }
-    if 126 < byte {
-        return b'?';
-    }
-    byte
 }
 
 // How many bytes of an argument are shown.
@@ -208,8 +218,8 @@ const MOST_SHOWN: usize = 40;
 
 // The first bytes of an argument.
 fn put_shown_bytes(page: &mut Page, word: &[u8])
-    requires { Fits page.old (texts (byte_of word.now) (length word.now)) }
-    ensures { Put page.old (texts (byte_of word.now) (length word.now)) page.new }
+    requires { Fits page.old (map shown_byte word.now) }
+    ensures { Put page.old (map shown_byte word.now) page.new }
 {
     for &byte in word {
         page.byte(shown_byte(byte));
@@ -217,18 +227,20 @@ fn put_shown_bytes(page: &mut Page, word: &[u8])
 }
 
 // An argument as it is shown.
+#[tactic(auto, unfolding(crate::specs::Words::shown_word))]
 fn put_word(page: &mut Page, word: &[u8])
     requires { Fits page.old (shown_word word.now) }
     ensures { Put page.old (shown_word word.now) page.new }
 {
-    if word.len() <= MOST_SHOWN {
-        return put_shown_bytes(page, word);
+    let shown = word.len().min(MOST_SHOWN);
+    put_shown_bytes(page, &word[..shown]);
+    if shown < word.len() {
+        page.bytes(b"...");
     }
-    put_shown_bytes(page, &word[..MOST_SHOWN]);
-    page.bytes(b"...");
 }
 
 // What is said of the argument at a place, from 1, by why it is no word: a text with numbers in it, and behind it the argument.
+#[tactic(auto, unfolding(crate::specs::Words::no_word_text, crate::specs::Words::no_word_words))]
 fn put_no_word(page: &mut Page, kind: Kind, none: NoWord, place: u32, word: &[u8])
     requires { Fits page.old (no_word_words kind none place word.now) }
     ensures { Put page.old (no_word_words kind none place word.now) page.new }
@@ -244,6 +256,7 @@ fn put_no_word(page: &mut Page, kind: Kind, none: NoWord, place: u32, word: &[u8
 // ---- an argument as word k of a list
 
 // Its word goes there and nothing is said, or it is said why it is none, and the list stays.
+#[tactic(auto, using(text::proofs::Pages::page_done, crate::proofs::Said::no_word_short), unfolding(crate::specs::Words::argument_words, crate::specs::Words::with_word))]
 pub fn take(kind: Kind, list: &mut [u32], k: usize, word: &[u8], out: &mut [u8]) -> usize
     requires { (k < length list.old) × (k < most_arguments Kind.Ends) × (most_words ≤ length out.old) }
     ensures { ArgumentSays kind word.now k list.old out.old result list.new out.new }

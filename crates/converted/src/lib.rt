@@ -2,12 +2,12 @@
 // `to_image` says beside it (ask 2): which line of the sheet is bad; of an image `refused` says it.
 #![tactic(auto)]
 
-ghost use Rattle.std.specs.Prelude.{◌≡◌, ◌+◌, ◌≤◌, length, replicate};
+ghost use Rattle.std.specs.Prelude.{◌≤◌, length};
 ghost use Rattle.image.specs.Limits.{max_bytes};
 ghost use Rattle.from_image.specs.Longest.{longest_sheet};
 ghost use Rattle.refused.specs.Refused.{most_refused};
 ghost use Rattle.refused.specs.Where.{most_where_at_line};
-ghost use Rattle.converted.specs.Converted.{longest_input, unwritten_line, image_page, sheet_said, sheet_page};
+ghost use Rattle.converted.specs.Converted.{unwritten_line, image_page, sheet_said, sheet_page};
 ghost use Rattle.text.specs.Writing.{PageSays};
 
 use image::{ImageRefusal, Refusal, RefusalNumbers};

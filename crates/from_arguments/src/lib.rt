@@ -20,6 +20,7 @@ fn count(rt: &impl Env) -> usize {
 }
 
 // A complaint about how many there are, or none; answers whether there was one.
+#[tactic(auto, using(arguments::proofs::Said::silent_few))]
 fn complains_of_count(program: &[u8], kind: Kind, count: usize) -> bool
     ensures { result ≡ false → count ≤ most_arguments kind }
 {
@@ -28,7 +29,7 @@ fn complains_of_count(program: &[u8], kind: Kind, count: usize) -> bool
     if end == 0 {
         return false;
     }
-    output::complain(program, &words[0..end]);
+    output::complain(program, &words[..end]);
     true
 }
 
@@ -56,7 +57,7 @@ fn take(program: &[u8], kind: Kind, list: &mut [u32], k: usize, word: &[u8]) -> 
     if end == 0 {
         return true;
     }
-    output::complain(program, &words[0..end]);
+    output::complain(program, &words[..end]);
     false
 }
 
@@ -73,7 +74,7 @@ fn read_word(
     ensures { length list.new ≡ length list.old }
 {
     let n = read_argument(rt, k + 1, room);
-    take(program, kind, list, k, &room[0..n])
+    take(program, kind, list, k, &room[..n])
 }
 
 // Each word of the list, up to the first argument that is none; answers whether all are words.
@@ -82,8 +83,7 @@ fn read_words(rt: &impl Env, program: &[u8], kind: Kind, list: &mut [u32]) -> bo
     ensures { length list.new ≡ length list.old }
 {
     let mut room = [0u8; ARGUMENT];
-    let n = list.len();
-    for k in 0..n {
+    for k in 0..list.len() {
         if !read_word(rt, program, kind, list, k, &mut room) {
             return false;
         }
@@ -92,6 +92,7 @@ fn read_words(rt: &impl Env, program: &[u8], kind: Kind, list: &mut [u32]) -> bo
 }
 
 // The arguments as words, at the front of what is lent, and how many they are; none after a complaint.
+#[tactic(auto, using(arguments::proofs::Said::most_ends))]
 fn read(rt: &impl Env, program: &[u8], kind: Kind, list: &mut [u32]) -> Option<usize>
     requires { most_arguments kind ≤ length list.old }
     ensures few { IfSome result (λ n. n ≤ most_arguments kind) }
@@ -101,7 +102,7 @@ fn read(rt: &impl Env, program: &[u8], kind: Kind, list: &mut [u32]) -> Option<u
     if complains_of_count(program, kind, n) {
         return None;
     }
-    if read_words(rt, program, kind, &mut list[0..n]) {
+    if read_words(rt, program, kind, &mut list[..n]) {
         Some(n)
     } else {
         None

@@ -5,10 +5,9 @@ use mathlib.Core.Path.{◌≡◌, refl}
 use mathlib.Core.List.{List, [], ◌∷◌, ◌++◌, map}
 use lib.ListN.{length, replicate}
 use Rattle.text.specs.Ascii.{ascii}
-use Rattle.image.specs.Refusals.{refusing_at, refusing}
+use Rattle.image.specs.Refusals.{Counted, refusing_at, refusing, numbers_of_count, told_of_image}
 use Rattle.image.specs.Image.{refusal_of}
 use Rattle.image.specs.Assembler.{image, program, fields, end, set, load, store, add, sub, skipless, skipequal, reject}
-use Rattle.sheet.specs.declared.Written.TheVariants.{Refused, Length}
 use Rattle.from_image.specs.FromImage.{sheet_of_image, sheet_of_answer, sheet_of_output}
 use Rattle.from_image.specs.Longest.{longest_sheet}
 use Rattle.from_image.specs.Opened.{opened}
@@ -28,20 +27,27 @@ each = refl
 abbrev room : ℕ → List ℕ
 room n = replicate n 9
 
+-- what is answered, in numbers
+abbrev answer : (image out : List ℕ) → Counted
+answer image out = numbers_of_count (sheet_of_answer image out)
+
+abbrev done : ℕ → Counted
+done n = record { refusal = refusing 0; count = n }
+
 -- "beyond the length nothing is touched"
-answered : (sheet_of_answer (image 1 ([] ∷ [])) (room 16) ≡ Length 15) × (sheet_of_output (image 1 ([] ∷ [])) (room 16) ≡ ascii "rule 1\nprogram\n" ++ (9 ∷ []))
+answered : (answer (image 1 ([] ∷ [])) (room 16) ≡ done 15) × (sheet_of_output (image 1 ([] ∷ [])) (room 16) ≡ ascii "rule 1\nprogram\n" ++ (9 ∷ []))
 unfolding opened
 answered = (refl, refl)
 
 -- an output of exactly the sheet's length is enough
-exact : (sheet_of_answer (image 1 []) (room 7) ≡ Length 7) × (sheet_of_output (image 1 []) (room 7) ≡ ascii "rule 1\n")
+exact : (answer (image 1 []) (room 7) ≡ done 7) × (sheet_of_output (image 1 []) (room 7) ≡ ascii "rule 1\n")
 unfolding opened
 exact = (refl, refl)
 
 -- "From an image: 1 to 4, then 10": five bytes; a count of 65; a first offset that is not 8; a register over 7; and one byte short
-refused : map (λ bytes. sheet_of_answer bytes (room 6))
+refused : map (λ bytes. answer bytes (room 6))
     (room 5 ∷ fields 65 1 0 (0 ∷ []) [] ∷ fields 1 1 0 (9 ∷ 9 ∷ []) [] ∷ image 1 (program (set 0 0 ∷ set 8 0 ∷ []) ∷ []) ∷ image 1 [] ∷ [])
-    ≡ Refused (refusing 1) ∷ Refused (refusing 2) ∷ Refused (refusing 3) ∷ Refused (refusing_at 42 0 1) ∷ Refused (refusing 10) ∷ []
+    ≡ map (λ r. record { refusal = r; count = 0 }) (refusing 1 ∷ refusing 2 ∷ refusing 3 ∷ refusing_at 42 0 1 ∷ refusing 10 ∷ [])
 unfolding opened
 refused = refl
 
@@ -54,6 +60,6 @@ untouched = refl
 abbrev longest : List ℕ
 longest = image 2 (replicate 64 (program (replicate 22 (skipequal 7 7 10) ++ replicate 10 (skipequal 7 7 0))))
 
-longest_sheet_lem : ((refusal_of longest).number ≡ 0) × (length (sheet_of_image longest) ≡ longest_sheet) × (longest_sheet ≡ 34695)
+longest_sheet_lem : ((told_of_image (refusal_of longest)).number ≡ 0) × (length (sheet_of_image longest) ≡ longest_sheet) × (longest_sheet ≡ 34695)
 unfolding opened longest_sheet
 longest_sheet_lem = (refl, refl, refl)

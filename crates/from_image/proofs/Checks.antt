@@ -1,36 +1,35 @@
 -- The checks of the call: what no refusal shows, and what the call answers and leaves. Assumes nothing.
-use mathlib.Core.Path.{◌≡◌, ap, sym, ◌∙◌}
+use mathlib.Core.Path.{◌≡◌, refl, ap}
 use mathlib.Core.List.{List}
 use Prim.Native.Nat.{ℕ}
 use native.Mathlib.Omega.{arith}
 use lib.Dec.{leb}
 use lib.ListN.{length}
 use borrow.Author.Tests.{leb-true}
-use Rattle.image.specs.declared.Refusal.{Refusal}
-use Rattle.image.specs.Refusals as refusal
-use Rattle.image.specs.Image.{refusal_of}
-use Rattle.image.proofs.Refusing.{none_fails, none_after, number_of, refused_as_lem, done_as}
-use Rattle.text.specs.Writing.{Wrote, Room}
-use Rattle.text.proofs.Writing.{pasted_front}
-use Rattle.sheet.specs.declared.Written.TheVariants.{Refused, Length}
+use Rattle.std.specs.Prelude.{Ok, Err}
+use Rattle.text.specs.Writing.{PageSays, Room}
+use Rattle.text.proofs.Pages.{page_bytes}
+use Rattle.image.specs.declared.refusals.Refusal.{Refusal}
+use Rattle.image.specs.declared.refusals.Refusal.TheVariants.{Image, TooShort}
+use Rattle.image.specs.Refusals.{passed}
+use Rattle.image.specs.Image.{refusal_of, image_checks}
+use Rattle.image.proofs.Refusing.{none_fails, none_after, passed_given, refused_as_lem, done_as}
 use Rattle.from_image.specs.FromImage.{sheet_of_image, sheet_of_refusal, sheet_of_answer, sheet_of_output, SheetOfSays}
 
-module _ (image out : List ℕ) {r : Refusal} (says : r ≡ sheet_of_refusal image out) where
-  -- the image is good, and its sheet fits
-  pub sheet_shows : r.number ≡ 0 → ((refusal_of image).number ≡ 0) × Room out 0 (sheet_of_image image)
-  unfolding sheet_of_refusal
-  sheet_shows none =
-      let w = none_after (refusal_of image) _ (number_of (sym says) ∙ none) in
-      let f = none_fails (leb (length (sheet_of_image image)) (length out)) refusal.too_short refusal.none (λ z. omega arith) w.1 in
-      (w.0, record { fits = omega (arith, leb-true (length (sheet_of_image image)) (length out) f.0) })
-
-  pub sheet_refused_lem : (r.number ≡ 0 → ⊥) → SheetOfSays image out (Refused r) out
+module _ (image out : List ℕ) where
+  pub sheet_refused_lem : {r : Refusal} → sheet_of_refusal image out ≡ Err r → SheetOfSays image out (Err r) out
   unfolding sheet_of_answer sheet_of_output
-  sheet_refused_lem h = record { answer = refused_as_lem Refused _ says h; output = refused_as_lem (λ r. out) _ says h }
+  sheet_refused_lem e = record { answer = refused_as_lem Err _ refl e; output = refused_as_lem (λ r. out) _ refl e }
 
-  pub sheet_done : r.number ≡ 0 → {n : ℕ} {out' : List ℕ} → Wrote out 0 (sheet_of_image image) out' n → SheetOfSays image out (Length n) out'
-  unfolding sheet_of_answer sheet_of_output
-  sheet_done h w = record {
-    answer = done_as Refused says h (ap Length (omega (arith, w.next)));
-    output = done_as (λ r. out) says h (w.bytes ∙ pasted_front out (sheet_of_image image));
-  }
+  module _ (none : sheet_of_refusal image out ≡ passed) where
+    -- the image is good, and its sheet fits
+    pub sheet_shows : (refusal_of image ≡ passed) × Room out 0 (sheet_of_image image)
+    unfolding sheet_of_refusal
+    sheet_shows =
+        let w = none_after (image_checks image) _ none in
+        let f = none_fails (leb (length (sheet_of_image image)) (length out)) TooShort passed w.1 in
+        (passed_given Image (refusal_of image) w.0, record { fits = omega (arith, leb-true (length (sheet_of_image image)) (length out) f.0) })
+
+    pub sheet_done : {n : ℕ} {out' : List ℕ} → PageSays (sheet_of_image image) out n out' → SheetOfSays image out (Ok n) out'
+    unfolding sheet_of_answer sheet_of_output
+    sheet_done w = record { answer = done_as Err refl none (ap Ok w.answer); output = done_as (λ r. out) refl none (page_bytes w) }

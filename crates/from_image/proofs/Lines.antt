@@ -1,18 +1,16 @@
 -- Laws of a sheet's lines: one after another, and each as the code writes it, with its newline. Assumes nothing.
-use mathlib.Core.Path.{◌≡◌, refl, sym}
+use mathlib.Core.Path.{◌≡◌, refl}
 use mathlib.Core.List.{List, [], ◌∷◌, ◌++◌, append_assoc, append-nil}
-use Prim.Native.Nat.{ℕ, zero, suc, ◌+◌, ◌-◌, ◌≤◌}
+use Prim.Native.Nat.{ℕ, zero, suc, ◌+◌, ◌≤◌}
 use native.Mathlib.Omega.{arith}
-use lib.ListN.{length, take, length-append}
-use lib.Seq.{length-take-le}
+use lib.ListN.{length, length-append}
 use Rattle.text.specs.Ascii.{ascii}
 use Rattle.text.specs.Decimal.{decimal}
 use Rattle.text.specs.Filled.{shown, left, filled}
 use Rattle.sheet.specs.declared.Instruction.{Instruction}
-use Rattle.sheet.specs.declared.Name.{Name}
 use Rattle.sheet.specs.declared.Line.{Line}
 use Rattle.sheet.specs.declared.Line.TheVariants as line
-use Rattle.sheet.specs.Sheet.{newline, names, name_of, Named, line_text, sheet_text}
+use Rattle.sheet.specs.Sheet.{newline, names, name_of, line_text, sheet_text}
 use Rattle.from_image.specs.Typing.{most_name}
 
 -- ---- one after another
@@ -28,26 +26,19 @@ sheet_append (l ∷ ls) ms = rw (sheet_append ls ms, append_assoc)
 
 -- ---- a line
 
-pub rule_line_lem : (r : ℕ) → filled (ascii "rule #\n") (r ∷ []) ≡ sheet_text (line.Rule r ∷ [])
+pub rule_line_lem : (r : ℕ) → sheet_text (line.Rule r ∷ []) ≡ filled (ascii "rule #\n") (r ∷ [])
 unfolding sheet_text line_text filled shown left
 rule_line_lem r = simp append-nil
 
-pub program_line_lem : ascii "program\n" ≡ sheet_text (line.Program ∷ [])
+pub program_line_lem : sheet_text (line.Program ∷ []) ≡ ascii "program\n"
 unfolding sheet_text line_text
 program_line_lem = refl
 
-pub instruction_line_lem : (i : Instruction) → name_of i.op ++ filled (ascii " # # #\n") (i.a ∷ i.b ∷ i.c ∷ []) ≡ sheet_text (line.Instruction i ∷ [])
+pub instruction_line_lem : (i : Instruction) → sheet_text (line.Instruction i ∷ []) ≡ name_of i.op ++ filled (ascii " # # #\n") (i.a ∷ i.b ∷ i.c ∷ [])
 unfolding sheet_text line_text filled shown left
 instruction_line_lem i = simp (append_assoc, append-nil)
 
--- a name is the part of its bytes that the code takes
-pub name_part : {op : ℕ} {n : Name} → Named op n → take (n.length - 0) n.bytes ≡ name_of op
-name_part {n = n} h = let e : n.length - 0 ≡ n.length = omega arith in rw e h.bytes_are
-
 -- ---- how long it is
-
-pub name_length : {op : ℕ} {n : Name} → Named op n → n.length ≡ length (name_of op)
-name_length {n = n} h = rw (← h.bytes_are) (sym (length-take-le n.length n.bytes h.long))
 
 pub name_short : (op : ℕ) → length (name_of op) ≤ most_name
 unfolding name_of names

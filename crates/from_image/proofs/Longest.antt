@@ -7,8 +7,9 @@ use mathlib.Core.List.{List}
 use Prim.Native.Nat.{ℕ, zero, suc, ◌+◌, ◌*◌, ◌≤◌, ◌<◌, min}
 use native.Mathlib.Omega.{arith}
 use lib.Dec.{ltb, leb}
+use Rattle.std.specs.Prelude.{Err}
 use lib.ListN.{length, get_or, length-append}
-use borrow.Author.Tests.{ltb-true, ltb-false, leb-true, le-leb, eqb-true, eqb-false}
+use borrow.Author.Tests.{ltb-true, ltb-false, leb-true, le-leb, eqb-true}
 use Rattle.base.specs.Words.{every}
 use Rattle.base.proofs.Bools.{and_both}
 use Rattle.base.proofs.Bools as bools
@@ -19,15 +20,13 @@ use Rattle.text.proofs.Decimals.{length_small, byte_short, pair_short}
 use Rattle.text.proofs.Fillings.{texts_short}
 use Rattle.image.specs.Limits.{max_instructions, registers}
 use Rattle.image.specs.Instruction.{Kind, register, unused, skip, free, rows, known, kinds_of, register_good, unused_good, skip_good, instructions_of}
-use Rattle.image.specs.Image.{count_of, rule_byte, part_of, refusal_of}
-use Rattle.image.specs.Refusals as refusal
-use Rattle.image.specs.Refusals.{passes}
+use Rattle.image.specs.Image.{count_of, rule_byte, part_of, refusal_of, image_checks}
+use Rattle.image.specs.declared.refusals.Refusal.TheVariants.{Image, TooShort}
+use Rattle.image.specs.Refusals.{passed}
 use Rattle.image.proofs.Faults.{GoodBytes, good_at}
-use Rattle.image.proofs.Laws.{accepted, refusal_well, part_bytes}
-use Rattle.image.proofs.Places.{none_is}
-use Rattle.image.proofs.Refusing.{none_after, goes_on, first_refuses, first_passes, unless_either}
-use Rattle.sheet.specs.declared.Written.TheVariants.{Refused}
-use Rattle.sheet.specs.Answers.{numbers_of_written}
+use Rattle.image.proofs.Laws.{accepted, part_bytes}
+use Rattle.image.proofs.Refusing.{either, none_after, passed_given, given_passed, given_refused, goes_on, first_refuses, first_passes, unless_either}
+use Rattle.sheet.specs.Answers.{numbers_of_written, as_written}
 use Rattle.writer.proofs.Again.{small_rule}
 use Rattle.sheet.specs.Sheet.{operations, names, name_of, sheet_text}
 use Rattle.from_image.specs.FromImage.{instruction_at, program_lines, sheet_of_image, sheet_of_refusal, sheet_of_answer}
@@ -126,7 +125,7 @@ module _ (program : List ℕ) (bytes : (i : ℕ) → get_or program i 0 < 256) (
 
 module _ (image : List ℕ) (bytes : (i : ℕ) → get_or image i 0 < 256) where
   -- "for every accepted image": its sheet has at most so many bytes
-  pub sheet_short : (refusal_of image).number ≡ 0 → length (sheet_of_image image) ≤ longest_sheet
+  pub sheet_short : refusal_of image ≡ passed → length (sheet_of_image image) ≤ longest_sheet
   unfolding longest_sheet
   sheet_short none =
       let p = good_programs image refl none in
@@ -136,19 +135,20 @@ module _ (image : List ℕ) (bytes : (i : ℕ) → get_or image i 0 < 256) where
       omega (arith, length_sheet_of image refl refl, ap length (programs_texts image n), t, rule, p.few)
 
   -- so that an output of this many bytes is never too short
-  pub never_too_short : (out : List ℕ) → longest_sheet ≤ length out → sheet_of_refusal image out ≡ refusal_of image
+  pub never_too_short : (out : List ℕ) → longest_sheet ≤ length out → sheet_of_refusal image out ≡ image_checks image
   unfolding sheet_of_refusal
-  never_too_short out room = go (bools.known (passes (refusal_of image)))
-    where
-      go : (passes (refusal_of image) ≡ true) ⊎ (passes (refusal_of image) ≡ false) → sheet_of_refusal image out ≡ refusal_of image
-      go (inl e) =
-          let none = eqb-true (refusal_of image).number 0 e in
-          let fits = le-leb (length (sheet_of_image image)) (length out) (omega (arith, sheet_short none)) in
-          sym (none_is (refusal_well image) none ∙ first_passes refl none (goes_on refusal.too_short fits refl))
-      go (inr e) = sym (first_refuses _ refl (eqb-false (refusal_of image).number 0 e))
+  never_too_short out room =
+      either (λ r. refusal_of image ≡ r → sheet_of_refusal image out ≡ image_checks image) (refusal_of image)
+      (λ none same.
+      let fits = le-leb (length (sheet_of_image image)) (length out) (omega (arith, sheet_short none)) in
+      let checked = given_passed Image none in
+      sym (first_passes refl checked (goes_on TooShort fits checked)))
+      (λ r bad same. let e = given_refused Image bad in sym (first_refuses _ refl e) ∙ sym e)
+      refl
 
   -- a length that is answered is a sheet's
-  pub sheet_small : (out : List ℕ) → (numbers_of_written (sheet_of_answer image out)).length ≤ longest_sheet
+  pub sheet_small : (out : List ℕ) → (numbers_of_written (as_written (sheet_of_answer image out))).length ≤ longest_sheet
   unfolding sheet_of_answer sheet_of_refusal
   sheet_small out =
-      unless_either (λ x. (numbers_of_written x).length ≤ longest_sheet) (sheet_of_refusal image out) Refused _ (omega arith) (λ e. sheet_short (none_after (refusal_of image) _ e).0)
+      unless_either (λ x. (numbers_of_written (as_written x)).length ≤ longest_sheet) (sheet_of_refusal image out) Err _ (λ r e. omega arith)
+      (λ e. sheet_short (passed_given Image (refusal_of image) (none_after (image_checks image) _ e).0))

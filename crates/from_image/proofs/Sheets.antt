@@ -9,7 +9,10 @@ use lib.ListN.{length, length-append}
 use borrow.Author.Tests.{ltb-true}
 use Rattle.base.proofs.Numbers.{every_at}
 use Rattle.text.specs.Decimal.{decimal}
+use Rattle.std.proofs.lemmas.Grind.{common_steps}
 use Rattle.text.specs.Filled.{texts}
+use Rattle.text.proofs.Fillings.{length_texts, texts_none}
+use Rattle.image.specs.Refusals.{passed}
 use Rattle.image.specs.Instruction.{rows, known, byte_of, instructions_of, program_good}
 use Rattle.image.specs.Image.{count_of, rule_byte, part_of, code_good, refusal_of}
 use Rattle.image.proofs.Faults.{good_at}
@@ -61,6 +64,11 @@ pub named_at : (program : List ℕ) → program_good program ≡ true → (i : �
 unfolding known rows
 named_at program good i l = ltb-true (byte_of program i 0) operations (good_at program good i l).operation
 
+-- how many bytes they have, one turn after another
+pub ruleset lines_long = (common_steps, first_texts, named_at, length_texts, texts_none)
+
+pub ruleset programs_long = (common_steps, programs_texts, length_program, length_texts, texts_none)
+
 -- ---- an image that is not refused
 
 module _ (image : List ℕ) {n : ℕ} (n_is : n ≡ count_of image) where
@@ -74,7 +82,7 @@ module _ (image : List ℕ) {n : ℕ} (n_is : n ≡ count_of image) where
       → length (sheet_of_image image) ≡ 6 + length (decimal rule) + length (sheet_text (programs_lines (picked (λ k. true) image n)))
   length_sheet_of {rule} e = rw (sheet_text_lem e, length-append) (omega (arith, rule_length rule))
 
-  pub good_programs : (refusal_of image).number ≡ 0 → Programs image n
+  pub good_programs : refusal_of image ≡ passed → Programs image n
   unfolding code_good
   good_programs none =
       let a = accepted image none in

@@ -2,58 +2,40 @@
 #![tactic(auto)]
 
 ghost use Rattle.std.specs.Prelude.{◌≡◌, true, [], ◌∷◌, ◌*◌, ◌<◌, ◌≤◌, length};
-ghost use Rattle.text.specs.Writing.{Wrote, Room};
+ghost use Rattle.text.specs.Paper.{Put, Fits};
+ghost use Rattle.text.specs.Writing.{PageSays, Room};
 ghost use Rattle.image.specs.Limits.{max_instructions};
 ghost use Rattle.image.specs.Instruction.{instructions_of};
 ghost use Rattle.image.specs.Refusals.{passed};
 ghost use Rattle.image.specs.Image.{refusal_of};
 ghost use Rattle.writer.specs.Picked.{picked};
 ghost use Rattle.sheet.specs.declared.Line.TheVariants as line;
-ghost use Rattle.sheet.specs.Sheet.{operations, name_of, sheet_text};
+ghost use Rattle.sheet.specs.Sheet.{operations, sheet_text};
 ghost use Rattle.from_image.specs.FromImage.{instruction_at, first_lines, program_lines, programs_lines, sheet_of_image, sheet_of_refusal, SheetOfSays};
 ghost use Rattle.from_image.specs.Longest.{longest_sheet};
-ghost use Rattle.from_image.specs.Typing.{Good, Programs, most_name, most_line, most_lines};
+ghost use Rattle.from_image.specs.Typing.{Good, Programs, most_line, most_lines};
 
 use image::Refusal;
+use text::Page;
 
 // ---- writing
 
 // The line "rule R".
-fn put_rule_line(out: &mut [u8], at: usize, rule: u8) -> usize
-    requires { Room out.old at (sheet_text (line.Rule rule ∷ [])) }
-    ensures { Wrote out.old at (sheet_text (line.Rule rule ∷ [])) out.new result }
+#[tactic(auto, using(crate::proofs::Lines::rule_line_lem))]
+fn put_rule_line(page: &mut Page, rule: u8)
+    requires { Fits page.old (sheet_text (line.Rule rule ∷ [])) }
+    ensures { Put page.old (sheet_text (line.Rule rule ∷ [])) page.new }
 {
-    let numbers = [rule as u32];
-    text::put_filled(out, at, b"rule #\n", &numbers[..])
-}
-
-// The line "program".
-fn put_program_line(out: &mut [u8], at: usize) -> usize
-    requires { Room out.old at (sheet_text (line.Program ∷ [])) }
-    ensures { Wrote out.old at (sheet_text (line.Program ∷ [])) out.new result }
-{
-    text::put_bytes(out, at, b"program\n")
-}
-
-// An operation's name.
-fn put_name(out: &mut [u8], at: usize, op: u8) -> usize
-    requires { (op < operations) × Room out.old at (name_of op) }
-    ensures { Wrote out.old at (name_of op) out.new result }
-{
-    let name = sheet::name_of(op as usize);
-    let bytes = name.bytes;
-    let n = name.length;
-    text::put_bytes(out, at, &bytes[0..n])
+    page.filled(b"rule #\n", &[rule as u32]);
 }
 
 // An instruction's line: its name and its three bytes.
-fn put_instruction_line(out: &mut [u8], at: usize, i: sheet::Instruction) -> usize
-    requires { (i.op < operations) × Room out.old at (sheet_text (line.Instruction i ∷ [])) }
-    ensures { Wrote out.old at (sheet_text (line.Instruction i ∷ [])) out.new result }
+fn put_instruction_line(page: &mut Page, i: sheet::Instruction)
+    requires { (i.op < operations) × Fits page.old (sheet_text (line.Instruction i ∷ [])) }
+    ensures { Put page.old (sheet_text (line.Instruction i ∷ [])) page.new }
 {
-    let next = put_name(out, at, i.op);
-    let numbers = [i.a as u32, i.b as u32, i.c as u32];
-    text::put_filled(out, next, b" # # #\n", &numbers[..])
+    page.bytes(sheet::name_of(i.op));
+    page.filled(b" # # #\n", &[i.a as u32, i.b as u32, i.c as u32]);
 }
 
 // Instruction i of a program.
@@ -71,48 +53,46 @@ fn instruction_at(program: &[u8], i: usize) -> sheet::Instruction
 }
 
 // A line for each instruction of a program.
-fn put_instructions(out: &mut [u8], at: usize, program: &[u8]) -> usize
-    requires { Good program.now × Room out.old at (sheet_text (first_lines program.now (instructions_of program.now))) }
-    ensures { Wrote out.old at (sheet_text (first_lines program.now (instructions_of program.now))) out.new result }
+#[tactic(auto, using(crate::proofs::Sheets::first_texts, text::proofs::Fillings::turns))]
+fn put_instructions(page: &mut Page, program: &[u8])
+    requires { Good program.now × Fits page.old (sheet_text (first_lines program.now (instructions_of program.now))) }
+    ensures { Put page.old (sheet_text (first_lines program.now (instructions_of program.now))) page.new }
 {
-    let m = program.len() / image::Image::INSTRUCTION_BYTES;
-    let mut to = at;
-    for i in 0..m {
-        let instruction = instruction_at(program, i);
-        to = put_instruction_line(out, to, instruction);
+    for i in 0..program.len() / image::Image::INSTRUCTION_BYTES {
+        put_instruction_line(page, instruction_at(program, i));
     }
-    to
 }
 
 // A program: the line "program", and its instructions.
-fn put_program(out: &mut [u8], at: usize, program: &[u8]) -> usize
-    requires { Good program.now × Room out.old at (sheet_text (program_lines program.now)) }
-    ensures { Wrote out.old at (sheet_text (program_lines program.now)) out.new result }
+#[tactic(auto, using(crate::proofs::Sheets::program_text_lem, crate::proofs::Lines::program_line_lem))]
+fn put_program(page: &mut Page, program: &[u8])
+    requires { Good program.now × Fits page.old (sheet_text (program_lines program.now)) }
+    ensures { Put page.old (sheet_text (program_lines program.now)) page.new }
 {
-    let next = put_program_line(out, at);
-    put_instructions(out, next, program)
+    page.bytes(b"program\n");
+    put_instructions(page, program);
 }
 
 // The first n programs of an image.
-fn put_programs(out: &mut [u8], at: usize, image: &[u8], n: usize) -> usize
-    requires { Programs image.now n × Room out.old at (sheet_text (programs_lines (picked (λ k. true) image.now n))) }
-    ensures { Wrote out.old at (sheet_text (programs_lines (picked (λ k. true) image.now n))) out.new result }
+#[tactic(auto, using(crate::proofs::Sheets::programs_texts, text::proofs::Pages::text_room, text::proofs::Fillings::turns))]
+fn put_programs(page: &mut Page, image: &[u8], n: usize)
+    requires { Programs image.now n × Fits page.old (sheet_text (programs_lines (picked (λ k. true) image.now n))) }
+    ensures { Put page.old (sheet_text (programs_lines (picked (λ k. true) image.now n))) page.new }
 {
-    let mut to = at;
     for k in 0..n {
-        let part = image::part_of(image, k);
-        to = put_program(out, to, part);
+        put_program(page, image::part_of(image, k));
     }
-    to
 }
 
 // The sheet, where all checks have been made.
 pub fn write_sheet(image: &[u8], out: &mut [u8]) -> usize
-    requires { ((refusal_of image.now).number ≡ 0) × Room out.old 0 (sheet_of_image image.now) }
-    ensures { Wrote out.old 0 (sheet_of_image image.now) out.new result }
+    requires { (refusal_of image.now ≡ passed) × Room out.old 0 (sheet_of_image image.now) }
+    ensures { PageSays (sheet_of_image image.now) out.old result out.new }
 {
-    let to = put_rule_line(out, 0, image::rule(image));
-    put_programs(out, to, image, image::count(image))
+    let mut page = Page::new(out);
+    put_rule_line(&mut page, image::rule(image));
+    put_programs(&mut page, image, image::count(image));
+    page.end()
 }
 
 // ---- measuring
@@ -122,20 +102,13 @@ const PROGRAM_LINE: usize = 8;
 
 const RULE_LINE: usize = 6;
 
-// How many bytes an operation's name has.
-fn name_length(op: u8) -> usize
-    requires { op < operations }
-    ensures { (result ≡ length (name_of op)) × (result ≤ most_name) }
-{
-    sheet::name_of(op as usize).length
-}
-
 // How many bytes an instruction's line has: its name, three numbers with a space before each, and the newline.
+#[tactic(auto, using(crate::proofs::Lines::instruction_length, crate::proofs::Lines::name_short, text::proofs::Decimals::byte_short))]
 fn instruction_length(i: sheet::Instruction) -> usize
     requires { i.op < operations }
     ensures { (result ≡ length (sheet_text (line.Instruction i ∷ []))) × (result ≤ most_line) }
 {
-    let name = name_length(i.op);
+    let name = sheet::name_of(i.op).len();
     let a = text::decimal_length(i.a as u32);
     let b = text::decimal_length(i.b as u32);
     let c = text::decimal_length(i.c as u32);
@@ -143,33 +116,33 @@ fn instruction_length(i: sheet::Instruction) -> usize
 }
 
 // How many bytes the lines of a program's instructions have.
+#[tactic(auto, using(crate::proofs::Sheets::lines_long))]
 fn instructions_length(program: &[u8]) -> usize
     requires { Good program.now }
     ensures { (result ≡ length (sheet_text (first_lines program.now (instructions_of program.now)))) × (result ≤ most_line * max_instructions) }
 {
-    let m = program.len() / image::Image::INSTRUCTION_BYTES;
-    let mut size: usize = 0;
-    for i in 0..m {
-        let instruction = instruction_at(program, i);
-        size += instruction_length(instruction);
+    let mut size = 0;
+    for i in 0..program.len() / image::Image::INSTRUCTION_BYTES {
+        size += instruction_length(instruction_at(program, i));
     }
     size
 }
 
 // How many bytes the lines of the first n programs have.
+#[tactic(auto, using(crate::proofs::Sheets::programs_long))]
 fn programs_length(image: &[u8], n: usize) -> usize
     requires { Programs image.now n }
     ensures { (result ≡ length (sheet_text (programs_lines (picked (λ k. true) image.now n)))) × (result ≤ most_lines * n) }
 {
-    let mut size: usize = 0;
+    let mut size = 0;
     for k in 0..n {
-        let part = image::part_of(image, k);
-        size += PROGRAM_LINE + instructions_length(part);
+        size += PROGRAM_LINE + instructions_length(image::part_of(image, k));
     }
     size
 }
 
 // How many bytes the sheet has, for check 10.
+#[tactic(auto, using(crate::proofs::Sheets::length_sheet_of, crate::proofs::Sheets::good_programs, text::proofs::Decimals::decimal_short))]
 fn sheet_length(image: &[u8]) -> usize
     requires { refusal_of image.now ≡ passed }
     ensures { result ≡ length (sheet_of_image image.now) }
@@ -195,6 +168,7 @@ const LONGEST_PROGRAM: usize = PROGRAM_LINE
 pub const LONGEST_SHEET: usize = RULE_LINE + 1 + image::Image::PROGRAMS * LONGEST_PROGRAM;
 
 // The same as a call, whose contract holds the number to its definition.
+#[tactic(auto, unfolding(crate::specs::Longest::longest_sheet))]
 pub fn longest_sheet() -> usize
     ensures { result ≡ longest_sheet }
 {
@@ -204,6 +178,7 @@ pub fn longest_sheet() -> usize
 // ---- the call
 
 // Checks 1 to 4, then 10.
+#[tactic(auto, unfolding(crate::specs::FromImage::sheet_of_refusal, image::specs::Opened::opened))]
 fn sheet_refusal(image: &[u8], out: &[u8]) -> Result<(), Refusal>
     ensures { result ≡ sheet_of_refusal image.now out.now }
 {
@@ -215,6 +190,7 @@ fn sheet_refusal(image: &[u8], out: &[u8]) -> Result<(), Refusal>
 }
 
 // The sheet of an image: its length, and its bytes at the front of the output.
+#[tactic(auto, using(crate::proofs::Checks::sheet_shows, crate::proofs::Checks::sheet_refused_lem, crate::proofs::Checks::sheet_done))]
 pub fn sheet_of(image: &[u8], out: &mut [u8]) -> Result<usize, Refusal>
     ensures { SheetOfSays image.now out.old result out.new }
 {

@@ -5,16 +5,28 @@ use mathlib.Core.Path.{◌≡◌, refl}
 use mathlib.Core.List.{List, [], ◌∷◌, ◌++◌, map}
 use lib.ListN.{replicate}
 use Rattle.text.specs.Ascii.{ascii}
-use Rattle.image.specs.Refusals.{refusing}
+use Rattle.image.specs.Refusals.{refusing, refusing_at}
 use Rattle.image.specs.Assembler.{joined}
-use Rattle.sheet.specs.declared.Written.{Written}
-use Rattle.sheet.specs.declared.Written.TheVariants.{Refused, BadLine, Length}
+use Rattle.sheet.specs.Answers.{TextNumbers, numbers_of_written}
 use Rattle.from_sheet.specs.FromSheet.{image_of_answer, image_of_output}
 use Rattle.from_sheet.specs.Opened.{opened}
 
 -- an output of so many bytes, each 9
 abbrev room : ℕ → List ℕ
 room n = replicate n 9
+
+-- what is answered, in numbers: a length, a refusal that has no place, and a bad line
+abbrev answer : (sheet out : List ℕ) → TextNumbers
+answer sheet out = numbers_of_written (image_of_answer sheet out)
+
+abbrev done : ℕ → TextNumbers
+done n = record { refusal = refusing 0; length = n; line = 0 }
+
+abbrev refused : ℕ → TextNumbers
+refused n = record { refusal = refusing n; length = 0; line = 0 }
+
+abbrev bad : ℕ → TextNumbers
+bad k = record { refusal = refusing 51; length = 0; line = k }
 
 -- no program; one that is empty; two, with the rule byte as it is typed. "beyond the length nothing is touched"
 written : image_of_output (ascii "rule 0\n") (room 7)
@@ -28,7 +40,7 @@ written : image_of_output (ascii "rule 0\n") (room 7)
 unfolding opened
 written = refl
 
-answered : image_of_answer (ascii "rule 0\n") (room 7) ∷ image_of_answer (ascii "rule 2\nprogram\nend 0 0 0\n") (room 12) ∷ [] ≡ Length 6 ∷ Length 12 ∷ []
+answered : answer (ascii "rule 0\n") (room 7) ∷ answer (ascii "rule 2\nprogram\nend 0 0 0\n") (room 12) ∷ [] ≡ done 6 ∷ done 12 ∷ []
 unfolding opened
 answered = refl
 
@@ -39,31 +51,31 @@ abbrev sheet_with : (programs instructions : ℕ) → List ℕ
 sheet_with n m = ascii "rule 1\n" ++ joined (replicate n (ascii "program\n" ++ joined (replicate m (ascii "end 0 0 0\n"))))
 
 -- 51: with its line
-line_51 : map (λ text. image_of_answer text (room 100)) ([] ∷ ascii "rule 3\n" ∷ ascii "rule 1\nprogram\nend 0 0 00\n" ∷ ascii "rule 1\nprogram" ∷ [])
-    ≡ BadLine 1 ∷ BadLine 1 ∷ BadLine 3 ∷ BadLine 2 ∷ []
+line_51 : map (λ text. answer text (room 100)) ([] ∷ ascii "rule 3\n" ∷ ascii "rule 1\nprogram\nend 0 0 00\n" ∷ ascii "rule 1\nprogram" ∷ [])
+    ≡ bad 1 ∷ bad 1 ∷ bad 3 ∷ bad 2 ∷ []
 unfolding opened
 line_51 = refl
 
 -- 2: 64 programs, and 65
-programs_2 : (image_of_answer (sheet_with 64 0) (room 134) ≡ Length 134) × (image_of_answer (sheet_with 65 0) (room 200) ≡ Refused (refusing 2))
+programs_2 : (answer (sheet_with 64 0) (room 134) ≡ done 134) × (answer (sheet_with 65 0) (room 200) ≡ refused 2)
 unfolding opened
 programs_2 = (refl, refl)
 
 -- 3: 32 instructions, and 33
-instructions_3 : (image_of_answer (sheet_with 1 32) (room 136) ≡ Length 136) × (image_of_answer (sheet_with 2 33) (room 300) ≡ Refused (refusing 3))
+instructions_3 : (answer (sheet_with 1 32) (room 136) ≡ done 136) × (answer (sheet_with 2 33) (room 300) ≡ refused 3)
 unfolding opened
 instructions_3 = (refl, refl)
 
 -- ---- document 02, ask 2: which instruction is bad
 
-abbrev at : (number program instruction : ℕ) → Written
-at number p i = Refused (record { number = number; program = p; instruction = i })
+abbrev at : (number program instruction : ℕ) → TextNumbers
+at number p i = record { refusal = refusing_at number p i; length = 0; line = 0 }
 
 -- a register over 7, an unused byte not 0, a skip past the end, and the last good ones
-instructions_4 : map (λ text. image_of_answer (ascii "rule 1\nprogram\nprogram\n" ++ text) (room 100))
+instructions_4 : map (λ text. answer (ascii "rule 1\nprogram\nprogram\n" ++ text) (room 100))
     (ascii "set 7 0 0\n" ∷ ascii "set 8 0 0\n" ∷ ascii "load 0 0 1\n" ∷ ascii "skipless 0 0 0\n" ∷ ascii "skipless 0 0 1\n"
     ∷ ascii "skipless 0 0 1\nend 0 0 0\n" ∷ [])
-    ≡ Length 14 ∷ at 42 1 0 ∷ at 43 1 0 ∷ Length 14 ∷ at 44 1 0 ∷ Length 18 ∷ []
+    ≡ done 14 ∷ at 42 1 0 ∷ at 43 1 0 ∷ done 14 ∷ at 44 1 0 ∷ done 18 ∷ []
 unfolding opened
 instructions_4 = refl
 
@@ -80,8 +92,8 @@ empty = ascii "program\n"
 abbrev three : (x y z : List ℕ) → List ℕ
 three x y z = empty ++ x ++ y ++ z
 
-abbrev refused_as : List ℕ → Written
-refused_as programs = image_of_answer (ascii "rule 1\n" ++ programs) []
+abbrev refused_as : List ℕ → TextNumbers
+refused_as programs = answer (ascii "rule 1\n" ++ programs) []
 
 firsts : map (λ x. refused_as (three x one one ++ empty ++ empty)) ways ≡ at 42 0 0 ∷ at 43 0 0 ∷ at 44 0 0 ∷ []
 unfolding opened
@@ -96,7 +108,7 @@ unfolding opened
 lasts = refl
 
 -- the very last place that there is
-last_place : image_of_answer (sheet_with 63 0 ++ empty ++ joined (replicate 31 one) ++ ascii "set 8 0 0\n") [] ≡ at 42 63 31
+last_place : answer (sheet_with 63 0 ++ empty ++ joined (replicate 31 one) ++ ascii "set 8 0 0\n") [] ≡ at 42 63 31
 unfolding opened
 last_place = refl
 
@@ -118,14 +130,14 @@ unknown_names : map refused_as
     ∷ three one (ascii "9 0 0 0\n") one
     ∷ three (ascii "set 8 0 0\n") one (ascii "jump 0 0 0\n")
     ∷ [])
-    ≡ BadLine 4 ∷ BadLine 4 ∷ BadLine 5 ∷ []
+    ≡ bad 4 ∷ bad 4 ∷ bad 5 ∷ []
 unfolding opened
 unknown_names = refl
 
 -- ---- the output, and the order of the checks
 
 -- 10: one byte short
-output_10 : image_of_answer (ascii "rule 0\n") (room 5) ∷ image_of_answer (ascii "rule 0\n") (room 6) ∷ [] ≡ Refused (refusing 10) ∷ Length 6 ∷ []
+output_10 : answer (ascii "rule 0\n") (room 5) ∷ answer (ascii "rule 0\n") (room 6) ∷ [] ≡ refused 10 ∷ done 6 ∷ []
 unfolding opened
 output_10 = refl
 
@@ -134,11 +146,11 @@ output_10 = refl
 abbrev long : List ℕ
 long = ascii "program\n" ++ joined (replicate 33 (ascii "end 0 0 0\n"))
 
-in_turn : map (λ text. image_of_answer text [])
+in_turn : map (λ text. answer text [])
     ((sheet_with 63 0 ++ long ++ ascii "program\nset 8 0 0\nx\n") ∷ (sheet_with 63 0 ++ long ++ ascii "program\nset 8 0 0\n")
     ∷ (sheet_with 62 0 ++ long ++ ascii "program\nset 8 0 0\n") ∷ (sheet_with 63 0 ++ ascii "program\nset 8 0 0\n")
     ∷ (sheet_with 63 0 ++ ascii "program\nset 7 0 0\n") ∷ [])
-    ≡ BadLine 101 ∷ Refused (refusing 2) ∷ Refused (refusing 3) ∷ at 42 63 0 ∷ Refused (refusing 10) ∷ []
+    ≡ bad 101 ∷ refused 2 ∷ refused 3 ∷ at 42 63 0 ∷ refused 10 ∷ []
 unfolding opened
 in_turn = refl
 

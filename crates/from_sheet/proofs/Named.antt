@@ -4,16 +4,21 @@ use mathlib.Core.List.{List, [], ◌∷◌, map}
 use Prim.Native.Nat.{ℕ, zero, suc, ◌+◌, ◌*◌, ◌<◌}
 use native.Mathlib.Omega.{arith}
 use lib.Dec.{eqb}
+use Rattle.std.specs.Prelude.{Ok, Err}
 use lib.ListN.{length, get_or}
 use borrow.Author.Tests.{lt-ltb}
 use Rattle.image.specs.Limits.{instruction_bytes}
-use Rattle.image.specs.declared.Refusal.{Refusal}
-use Rattle.image.specs.Refusals.{check, placed}
-use Rattle.image.specs.Instruction.{rows, known, kinds_of, register_good, unused_good, skip_good, each, fault_of, byte_of, instructions_of, fault_at}
-use Rattle.image.specs.Instruction.{program_fault, code_fault}
-use Rattle.image.proofs.Refusing.{check_either, firsts_either}
+use Rattle.image.specs.declared.refusals.Fault.{Fault}
+use Rattle.image.specs.declared.refusals.BadInstruction.{BadInstruction}
+use Rattle.image.specs.declared.refusals.ImageRefusal.{ImageRefusal}
+use Rattle.image.specs.declared.refusals.ImageRefusal.TheVariants.{Instruction}
+use Rattle.image.specs.Refusals.{fault_number, told_of_image, check, given_as, placed}
+use Rattle.image.specs.Instruction.{rows, known, kinds_of, register_good, unused_good, skip_good, each, fault_of, byte_of, fault_at, code_fault}
+use Rattle.image.proofs.Refusing.{Checks, check_either}
+use Rattle.image.proofs.Faults.{found_either}
 use Rattle.sheet.specs.declared.Line.{Line}
 use Rattle.sheet.specs.declared.Line.TheVariants as line
+use Rattle.sheet.specs.Answers.{as_image, told_of_sheet}
 use Rattle.sheet.specs.Sheet.{newline, operations, line_of, bad_line, leading, programs}
 use Rattle.sheet.specs.Split.{split}
 use Rattle.sheet.proofs.Lines.{line_back}
@@ -70,28 +75,46 @@ programs_named (text ∷ parts) p i = go (line_of text) p (λ q. programs_named 
 
 -- ---- so none is unknown
 
-abbrev Not41 : Refusal → Type 0
-Not41 r = r.number ≡ 41 → ⊥
+abbrev Not41 : ℕ → Type 0
+Not41 n = n ≡ 41 → ⊥
 
-known_fault : (op a b c i m : ℕ) → op < operations → Not41 (fault_of op a b c i m)
+-- of the checks of an instruction, and of a program's
+abbrev Known : Checks Fault → Type 0
+Known (Ok done) = Unit {0}
+Known (Err f) = Not41 (fault_number f)
+
+abbrev AllKnown : Checks BadInstruction → Type 0
+AllKnown r = Not41 (told_of_image (given_as Instruction r)).number
+
+known_fault : (op a b c i m : ℕ) → op < operations → Known (fault_of op a b c i m)
 unfolding fault_of known rows check
 known_fault op a b c i m h =
     rw (lt-ltb op operations h)
-    (check_either Not41 (each register_good (kinds_of op) a b c) (λ e. omega arith)
-    (check_either Not41 (each unused_good (kinds_of op) a b c) (λ e. omega arith)
-    (check_either Not41 (each (skip_good i m) (kinds_of op) a b c) (λ e. omega arith) (λ e. omega arith))))
+    (check_either Known (each register_good (kinds_of op) a b c) (λ e. omega arith)
+    (check_either Known (each unused_good (kinds_of op) a b c) (λ e. omega arith)
+    (check_either Known (each (skip_good i m) (kinds_of op) a b c) (λ e. omega arith) tt)))
 
-known_code : (part : ℕ → List ℕ) (n : ℕ) → ((p i : ℕ) → byte_of (part p) i 0 < operations) → Not41 (code_fault n part)
-unfolding code_fault program_fault fault_at placed
-known_code part n h =
-    firsts_either Not41 _ (λ e. omega arith)
-    (λ p. firsts_either Not41 _ (λ e. omega arith)
-    (λ i. check_either Not41 _ (known_fault _ _ _ _ i _ (h p i)) (λ e. omega arith)) (instructions_of (part p))) n
+placed_known : (p i : ℕ) (r : Checks Fault) → Known r → AllKnown (placed p i r)
+unfolding placed given_as
+placed_known p i (Ok done) h = λ e. omega arith
+placed_known p i (Err f) h = h
 
-pub never_41 : (sheet : List ℕ) → (sheet_refusal sheet).number ≡ 41 → ⊥
+known_code : (part : ℕ → List ℕ) (n : ℕ) → ((p i : ℕ) → byte_of (part p) i 0 < operations) → AllKnown (code_fault n part)
+unfolding fault_at given_as
+known_code part n h = found_either part AllKnown (λ e. omega arith) (λ p i. placed_known p i _ (known_fault _ _ _ _ i _ (h p i))) n
+
+-- what is told of a sheet's programs is what is told of their image
+told_programs : (r : Checks ImageRefusal) → told_of_sheet (given_as as_image r) ≡ told_of_image r
+unfolding given_as
+told_programs (Ok done) = refl
+told_programs (Err r) = refl
+
+pub never_41 : (sheet : List ℕ) → (told_of_sheet (sheet_refusal sheet)).number ≡ 41 → ⊥
 unfolding sheet_refusal programs_refusal programs_fault
 never_41 sheet =
     let ps = programs_of sheet in
-    check_either Not41 (eqb (bad_line sheet) 0) (λ e. omega arith)
-    (check_either Not41 (few_programs ps) (λ e. omega arith)
-    (check_either Not41 (short_programs ps) (λ e. omega arith) (known_code (λ p. get_or ps p []) (length ps) (programs_named (split newline sheet)))))
+    check_either (λ r. Not41 (told_of_sheet r).number) (eqb (bad_line sheet) 0) (λ e. omega arith)
+    (rw told_programs
+    (check_either (λ r. Not41 (told_of_image r).number) (few_programs ps) (λ e. omega arith)
+    (check_either (λ r. Not41 (told_of_image r).number) (short_programs ps) (λ e. omega arith)
+    (known_code (λ p. get_or ps p []) (length ps) (programs_named (split newline sheet))))))

@@ -7,23 +7,25 @@ use Prim.Native.Nat.{ℕ, zero, suc, zero-le, ◌+◌, ◌-◌, ◌≤◌, ◌<�
 use native.Mathlib.Omega.{arith}
 use native.Mathlib.Numerals.{add-one}
 use lib.Dec.{eqb, leb, ltb}
-use lib.ListN.{length, drop}
+use lib.ListN.{length, take, drop, length-map}
 use borrow.Author.Tests.{le-leb, lt-leb, ltb-true, ltb-false, eq-eqb, ne_eqb, eqb-true}
+use Rattle.std.specs.Prelude.{Err}
 use Rattle.base.proofs.Bools.{known}
 use Rattle.base.specs.Words.{words}
 use Rattle.base.proofs.Parts.{words_length}
+use Rattle.image.specs.Refusals.{passed}
 use Rattle.sheet.specs.declared.Line.{Line}
 use Rattle.sheet.specs.declared.Line.TheVariants as line
-use Rattle.sheet.specs.Split.{split, Ends}
+use Rattle.sheet.specs.Split.{onto, split, Ends}
 use Rattle.sheet.specs.Opened.{opened}
 use Rattle.sheet.specs.Sheet.{newline, line_of, lines_of, allowed, ended, bad_from}
 use Rattle.sheet.proofs.Parts.{split_some}
 use Rattle.from_sheet.specs.declared.counting.Sizes.{Sizes}
-use Rattle.from_sheet.specs.Passes.{lines_from, counted, tally, Small, last_bad}
+use Rattle.from_sheet.specs.Passes.{lines_from, counted, tally, Small, last_bad, checked_line}
 
 -- the line that begins at a place and ends at another
 abbrev pub line_at : List ℕ → (at end : ℕ) → Line
-line_at sheet at end = line_of (words at (end - at) sheet)
+line_at sheet at end = line_of (take (end - at) (drop at sheet))
 
 -- ---- the lines that are still to come
 
@@ -36,7 +38,7 @@ unfolding lines_from
 lines_none sheet at h = rw (lt-leb at (length sheet) h)
 
 pub lines_next : (sheet : List ℕ) (at end : ℕ) → Ends newline sheet at end → lines_from at sheet ≡ line_at sheet at end ∷ lines_from (end + 1) sheet
-unfolding lines_from
+unfolding words lines_from
 lines_next sheet at end e = rw (le-leb at (length sheet) (omega (arith, e.from, e.within))) (go (last_or_more (known (ltb end (length sheet)))))
   where
     last_or_more : (ltb end (length sheet) ≡ true) ⊎ (ltb end (length sheet) ≡ false) → (end ≡ length sheet) ⊎ (end < length sheet)
@@ -47,6 +49,20 @@ lines_next sheet at end e = rw (le-leb at (length sheet) (omega (arith, e.from, 
         → map line_of (split newline (drop at sheet)) ≡ line_at sheet at end ∷ cond (leb (end + 1) (length sheet)) (map line_of (split newline (drop (end + 1) sheet))) []
     go (inl f) = rw (e.last f, lt-leb (end + 1) (length sheet) (omega (arith, f)))
     go (inr l) = rw (e.more l, le-leb (end + 1) (length sheet) (omega arith))
+
+-- no more than one more than there are bytes
+split_few : (separator : ℕ) (text : List ℕ) → length (split separator text) ≤ length text + 1
+unfolding split onto
+split_few separator [] = omega arith
+split_few separator (x ∷ xs) = go (eqb x separator) (split separator xs) (split_few separator xs)
+  where
+    go : (b : Bool) (parts : List (List ℕ)) → length parts ≤ length xs + 1 → length (cond b ([] ∷ parts) (onto x parts)) ≤ length (x ∷ xs) + 1
+    go true parts h = omega arith
+    go false [] h = omega arith
+    go false (part ∷ parts) h = omega arith
+
+pub lines_few : (sheet : List ℕ) → length (lines_from 0 sheet) ≤ length sheet + 1
+lines_few sheet = rw (lines_all sheet, length-map) (split_few newline sheet)
 
 pub empty_line : line_of [] ≡ line.Other
 unfolding opened
@@ -62,6 +78,7 @@ bad_some place text parts e = rw e
 module _ (sheet : List ℕ) (at end place : ℕ) (e : Ends newline sheet at end) where
   pub bad_next : end < length sheet
       → bad_from place (split newline (drop at sheet)) ≡ cond (allowed place (line_at sheet at end)) (bad_from (place + 1) (split newline (drop (end + 1) sheet))) (place + 1)
+  unfolding words
   bad_next l =
       ap (bad_from place) (e.more l)
       ∙ bad_some place (words at (end - at) sheet) (split newline (drop (end + 1) sheet)) (split_some newline (drop (end + 1) sheet)).2
@@ -99,6 +116,17 @@ last_good_lem place rest h = go (eqb place 0) (eqb rest 0) refl h
     go true b e k = absurd (omega arith)
     go false true e k = eqb-true rest 0 e
     go false false e k = absurd (omega arith)
+
+-- as a check of it says
+pub none_checked : (k : ℕ) → passed ≡ checked_line k → k ≡ 0
+unfolding checked_line
+none_checked zero e = refl
+none_checked (suc k) e = cc
+
+pub bad_checked : (k line : ℕ) → Err line ≡ checked_line k → (line ≡ k) × (0 < line)
+unfolding checked_line
+bad_checked zero line e = absurd (cc)
+bad_checked (suc k) line e = let same : line ≡ suc k = cc in (same, omega (arith, same))
 
 -- ---- sizes
 

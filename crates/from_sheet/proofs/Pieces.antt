@@ -8,7 +8,7 @@ use Rattle.image.specs.Limits.{head_bytes, max_bytes}
 use Rattle.writer.specs.Joined.{number, joined, ends, offsets, image_of}
 use Rattle.sheet.specs.declared.Line.{Line}
 use Rattle.sheet.specs.declared.Line.TheVariants as line
-use Rattle.writer.proofs.Programs.{length_image}
+use Rattle.writer.proofs.Programs.{length_image, length_number}
 use Rattle.sheet.specs.Sheet.{bytes_of, rule_of, leading, programs}
 use Rattle.from_sheet.specs.FromSheet.{image_of_sheet}
 use Rattle.from_sheet.specs.Passes.{lines_from, body_of, bodies, offset_at, offsets_from, Writable}
@@ -69,12 +69,17 @@ module _ (ls : List Line) (none : leading ls ≡ []) where
   pub all_bodies : bodies ls ≡ joined (programs ls)
   all_bodies = bodies_are ls ∙ rw none
 
--- the image is four pieces
-pub image_pieces : {sheet out : List ℕ} {n : ℕ} → Writable sheet out n → let ls = lines_from 0 sheet in
-    image_of_sheet sheet ≡ number n ++ ((rule_of ls ∷ 0 ∷ []) ++ (offsets_from (head_bytes n) ls ++ bodies ls))
-unfolding image_of_sheet image_of
-image_pieces {sheet} {out} {n} w =
-    rw (← lines_all sheet, all_offsets (lines_from 0 sheet) w.nothing_leads n w.count, all_bodies (lines_from 0 sheet) w.nothing_leads, w.count) (simp append_assoc)
+-- the image is four pieces, and for each of them there is room
+module _ {sheet out : List ℕ} {n : ℕ} (w : Writable sheet out n) where
+  abbrev ls : List Line
+  ls = lines_from 0 sheet
+
+  pub image_pieces : image_of_sheet sheet ≡ number n ++ (rule_of ls ∷ 0 ∷ []) ++ offsets_from (head_bytes n) ls ++ bodies ls
+  unfolding image_of_sheet image_of
+  image_pieces = rw (← lines_all sheet, all_offsets ls w.nothing_leads n w.count, all_bodies ls w.nothing_leads, w.count)
+
+  pub pieces_fit : 4 + length (offsets_from (head_bytes n) ls) + length (bodies ls) ≤ length out
+  pieces_fit = omega (arith, w.room.fits, ap length image_pieces, length-append {A = ℕ}, length_number n)
 
 -- it is not too long
 pub ends_short : {sheet out : List ℕ} {n : ℕ} → Writable sheet out n → head_bytes n + length (bodies (lines_from 0 sheet)) ≤ max_bytes

@@ -1,49 +1,64 @@
 -- The checks of the call that reads a sheet: what its sizes show, and what the call answers and leaves. Assumes nothing.
 use mathlib.Core.Path.{◌≡◌, refl, sym, ap, ◌∙◌}
-use mathlib.Core.Bool.{Bool, true, false, cond}
+use mathlib.Core.Bool.{true}
 use mathlib.Core.List.{List, []}
 use Prim.Native.Nat.{ℕ, ◌+◌, ◌*◌, ◌≤◌, ◌<◌}
 use native.Mathlib.Omega.{arith}
 use lib.Dec.{eqb, leb}
 use lib.ListN.{length}
-use borrow.Author.Tests.{leb-true, le-leb, lt-leb, eq-eqb, ne_eqb}
-use Rattle.text.specs.Writing.{Wrote}
-use Rattle.text.proofs.Writing.{pasted_front}
+use borrow.Author.Tests.{leb-true, le-leb, lt-leb, eqb-true}
+use Rattle.std.specs.Prelude.{Ok, Err}
+use Rattle.text.specs.Writing.{PageSays}
+use Rattle.text.proofs.Pages.{page_bytes}
 use Rattle.image.specs.Limits.{max_programs, max_instructions, instruction_bytes, head_bytes, max_bytes}
-use Rattle.image.specs.declared.Refusal.{Refusal}
-use Rattle.image.specs.Refusals as refusal
-use Rattle.image.proofs.Refusing.{fails, goes_on, none_fails, first_refuses, first_passes, number_of, none_after, refused_as_lem, done_as, unless_either}
+use Rattle.image.specs.declared.refusals.ImageRefusal.TheVariants.{Header, Offsets}
+use Rattle.image.specs.declared.refusals.Refusal.TheVariants.{TooShort}
+use Rattle.image.specs.Refusals.{passed}
+use Rattle.image.proofs.Refusing.{fails, goes_on, none_fails, first_refuses, first_passes, none_after, passed_given}
+use Rattle.image.proofs.Refusing.{refused_as_lem, done_as, unless_either}
 use Rattle.writer.proofs.Programs.{length_image}
-use Rattle.sheet.specs.declared.Written.TheVariants.{Refused, BadLine, Length}
-use Rattle.sheet.specs.Answers.{numbers_of_written}
-use Rattle.sheet.specs.Sheet.{lines_of, bad_line, rule_of, programs}
+use Rattle.sheet.specs.declared.Unwritten.{Unwritten}
+use Rattle.sheet.specs.declared.Unwritten.TheVariants.{Refused, BadLine}
+use Rattle.sheet.specs.Answers.{as_image, numbers_of_written}
+use Rattle.sheet.specs.Sheet.{lines_of, bad_line, rule_of, leading, programs}
 use Rattle.from_sheet.specs.declared.counting.Sizes.{Sizes}
 use Rattle.from_sheet.specs.FromSheet.{programs_of, image_of_sheet, few_programs, short_programs, programs_fault, programs_refusal, sheet_refusal, image_of_refusal}
-use Rattle.from_sheet.specs.FromSheet.{refused_by, image_of_answer, image_of_output, ImageOfSays}
-use Rattle.from_sheet.specs.Passes.{lines_from, nothing, bodies, still_short, Readable, still_fault, Sized, Writable}
+use Rattle.from_sheet.specs.FromSheet.{image_of_answer, image_of_output, ImageOfSays}
+use Rattle.from_sheet.specs.Passes.{lines_from, tally, nothing, bodies, still_short, Readable, still_fault, Sized, Writable}
 use Rattle.from_sheet.proofs.Passing.{lines_all}
 use Rattle.from_sheet.proofs.Pieces.{all_bodies}
-use Rattle.from_sheet.proofs.Sizing.{tally_programs, tally_bytes, tally_longest, joined_short}
+use Rattle.from_sheet.proofs.Sizing.{tally_programs, tally_bytes, tally_longest, nothing_leads, joined_short}
 use Rattle.from_sheet.proofs.ReadPrograms.{all_faults, all_readable}
 
--- ---- what checks 2 to 44 show
+-- ---- what checks 51 to 44 show
 
-programs_shown : (ps : List (List ℕ)) → (programs_refusal ps).number ≡ 0 → (few_programs ps ≡ true) × (short_programs ps ≡ true)
+-- every line is allowed, and the programs are not refused
+pub sheet_shown : (sheet : List ℕ) → sheet_refusal sheet ≡ passed → (bad_line sheet ≡ 0) × (programs_refusal (programs_of sheet) ≡ passed)
+unfolding sheet_refusal
+sheet_shown sheet e =
+    let a = none_fails (eqb (bad_line sheet) 0) (BadLine (bad_line sheet)) _ e in
+    (eqb-true _ _ a.0, passed_given as_image (programs_refusal (programs_of sheet)) a.1)
+
+programs_shown : (ps : List (List ℕ)) → programs_refusal ps ≡ passed → (few_programs ps ≡ true) × (short_programs ps ≡ true)
 unfolding programs_refusal
-programs_shown ps passed =
-    let a = none_fails (few_programs ps) refusal.header _ (λ e. omega arith) passed in
-    let b = none_fails (short_programs ps) refusal.offsets _ (λ e. omega arith) a.1 in
+programs_shown ps e =
+    let a = none_fails (few_programs ps) Header _ e in
+    let b = none_fails (short_programs ps) Offsets _ a.1 in
     (a.0, b.0)
 
 -- the image is not too long
-pub image_short : (sheet : List ℕ) → (programs_refusal (programs_of sheet)).number ≡ 0 → length (image_of_sheet sheet) ≤ max_bytes
+pub image_short : (sheet : List ℕ) → programs_refusal (programs_of sheet) ≡ passed → length (image_of_sheet sheet) ≤ max_bytes
 unfolding image_of_sheet few_programs
-image_short sheet passed =
-    let p = programs_shown (programs_of sheet) passed in
+image_short sheet e =
+    let p = programs_shown (programs_of sheet) e in
     let ps = programs_of sheet in
     omega (arith, leb-true (length ps) max_programs p.0, joined_short ps p.1, length_image (rule_of (lines_of sheet)) ps)
 
 -- ---- what the sizes of a sheet show
+
+-- those that a survey finds are the sheet's, where every line is allowed
+pub sized : {sheet : List ℕ} {s : Sizes} → bad_line sheet ≡ 0 → s ≡ tally nothing (lines_from 0 sheet) → Sized sheet s
+sized {sheet} good e = record { sizes_are = e; nothing_leads = ap leading (lines_all sheet) ∙ nothing_leads sheet good }
 
 module _ {sheet : List ℕ} {s : Sizes} (z : Sized sheet s) where
   same_programs : programs (lines_from 0 sheet) ≡ programs_of sheet
@@ -82,10 +97,10 @@ module _ {sheet : List ℕ} {s : Sizes} (z : Sized sheet s) where
       rw (← lines_all sheet)
       (omega (arith, bytes, program_count, ap length (all_bodies ls z.nothing_leads), length_image (rule_of ls) (programs ls)))
 
-  -- where checks 2 to 44 have passed, there are not too many, and the image can be written where it has room
-  module _ (passed : (programs_refusal (programs_of sheet)).number ≡ 0) where
+  -- where checks 51 to 44 have passed, there are not too many, and the image can be written where it has room
+  module _ (good : sheet_refusal sheet ≡ passed) where
     pub few_programs_lem : s.programs ≤ max_programs
-    few_programs_lem = leb-true s.programs max_programs (few_are ∙ (programs_shown (programs_of sheet) passed).0)
+    few_programs_lem = leb-true s.programs max_programs (few_are ∙ (programs_shown (programs_of sheet) (sheet_shown sheet good).1).0)
 
     pub writable : {out : List ℕ} → length (image_of_sheet sheet) ≤ length out → Writable sheet out s.programs
     writable h =
@@ -93,67 +108,41 @@ module _ {sheet : List ℕ} {s : Sizes} (z : Sized sheet s) where
           count = program_count;
           few = few_programs_lem;
           nothing_leads = z.nothing_leads;
-          short = image_short sheet passed;
+          short = image_short sheet (sheet_shown sheet good).1;
           room = record { fits = omega arith };
         }
 
 -- ---- what the call says
 
 module _ (sheet out : List ℕ) where
-  pub bad_says : {k : ℕ} → k ≡ bad_line sheet → (k ≡ 0 → ⊥) → ImageOfSays sheet out (BadLine k) out
-  unfolding image_of_answer image_of_output refused_by sheet_refusal image_of_refusal
-  bad_says {k} e h =
-      let bad : eqb (bad_line sheet) 0 ≡ false = ne_eqb (bad_line sheet) 0 (λ f. h (e ∙ f)) in
-      let r : refusal.line ≡ image_of_refusal sheet out = first_refuses _ (fails _ bad) (λ f. omega arith) in
-      record {
-        answer = ap BadLine e ∙ sym (rw bad) ∙ refused_as_lem (refused_by sheet) _ r (λ f. omega arith);
-        output = refused_as_lem (λ x. out) _ r (λ f. omega arith);
-      }
+  pub refused_says : {r : Unwritten} → image_of_refusal sheet out ≡ Err r → ImageOfSays sheet out (Err r) out
+  unfolding image_of_answer image_of_output
+  refused_says e = record { answer = refused_as_lem Err _ refl e; output = refused_as_lem (λ r. out) _ refl e }
 
-  module _ (good : bad_line sheet ≡ 0) where
-    refused_with_lem : (r : Refusal) → r ≡ image_of_refusal sheet out → (r.number ≡ 0 → ⊥) → ImageOfSays sheet out (Refused r) out
-    unfolding image_of_answer image_of_output refused_by
-    refused_with_lem r e h =
-        record {
-          answer = sym (rw (eq-eqb (bad_line sheet) 0 good)) ∙ refused_as_lem (refused_by sheet) _ e h;
-          output = refused_as_lem (λ x. out) _ e h;
-        }
+  pub sheet_refuses : {r : Unwritten} → sheet_refusal sheet ≡ Err r → image_of_refusal sheet out ≡ Err r
+  unfolding image_of_refusal
+  sheet_refuses e = sym (first_refuses _ refl e)
 
-    pub refused_says : {r : Refusal} → r ≡ programs_refusal (programs_of sheet) → (r.number ≡ 0 → ⊥) → ImageOfSays sheet out (Refused r) out
-    unfolding image_of_refusal sheet_refusal
-    refused_says {r} e h = refused_with_lem r (first_refuses _ (goes_on refusal.line (eq-eqb (bad_line sheet) 0 good) e) h) h
+  module _ (good : sheet_refusal sheet ≡ passed) where
+    pub too_short : length out < length (image_of_sheet sheet) → image_of_refusal sheet out ≡ Err (Refused TooShort)
+    unfolding image_of_refusal
+    too_short h = sym (first_passes refl good (fails _ (lt-leb (length (image_of_sheet sheet)) (length out) h)))
 
-    module _ (passed : (programs_refusal (programs_of sheet)).number ≡ 0) where
-      sheet_passed : (sheet_refusal sheet).number ≡ 0
-      unfolding sheet_refusal
-      sheet_passed = number_of (sym (goes_on refusal.line (eq-eqb (bad_line sheet) 0 good) refl)) ∙ passed
-
-      pub short_says : length out < length (image_of_sheet sheet) → ImageOfSays sheet out (Refused refusal.too_short) out
-      unfolding image_of_refusal
-      short_says h =
-          refused_with_lem refusal.too_short (first_passes refl sheet_passed (fails _ (lt-leb (length (image_of_sheet sheet)) (length out) h))) (λ f. omega arith)
-
-      pub done_says : length (image_of_sheet sheet) ≤ length out → {n : ℕ} {out' : List ℕ} → Wrote out 0 (image_of_sheet sheet) out' n
-          → ImageOfSays sheet out (Length n) out'
-      unfolding image_of_refusal image_of_answer image_of_output
-      done_says h w =
-          let fits = le-leb (length (image_of_sheet sheet)) (length out) h in
-          let e : refusal.none ≡ image_of_refusal sheet out = first_passes refl sheet_passed (goes_on refusal.too_short fits refl) in
-          record {
-            answer = done_as (refused_by sheet) e refl (ap Length (omega (arith, w.next)));
-            output = done_as (λ x. out) e refl (w.bytes ∙ pasted_front out (image_of_sheet sheet));
-          }
+    pub done_says : length (image_of_sheet sheet) ≤ length out → {n : ℕ} {out' : List ℕ} → PageSays (image_of_sheet sheet) out n out'
+        → ImageOfSays sheet out (Ok n) out'
+    unfolding image_of_refusal image_of_answer image_of_output
+    done_says h w =
+        let fits = le-leb (length (image_of_sheet sheet)) (length out) h in
+        let e : passed ≡ image_of_refusal sheet out = first_passes refl good (goes_on (Refused TooShort) fits refl) in
+        record { answer = done_as Err e refl (ap Ok w.answer); output = done_as (λ r. out) e refl (page_bytes w) }
 
   -- a length that is answered is an image's
   pub image_small : (numbers_of_written (image_of_answer sheet out)).length ≤ max_bytes
-  unfolding image_of_answer image_of_refusal sheet_refusal refused_by
+  unfolding image_of_answer image_of_refusal
   image_small =
-      unless_either (λ x. (numbers_of_written x).length ≤ max_bytes) (image_of_refusal sheet out) (refused_by sheet) _
-      (go (eqb (bad_line sheet) 0))
-      (λ e.
-      let p = (none_after (sheet_refusal sheet) _ e).0 in
-      image_short sheet (none_fails (eqb (bad_line sheet) 0) refusal.line _ (λ f. omega arith) p).1)
+      unless_either (λ x. (numbers_of_written x).length ≤ max_bytes) (image_of_refusal sheet out) Err _ (λ r e. no_length r)
+      (λ e. image_short sheet (sheet_shown sheet (none_after (sheet_refusal sheet) _ e).0).1)
     where
-      go : (b : Bool) → (numbers_of_written (cond b (Refused (image_of_refusal sheet out)) (BadLine (bad_line sheet)))).length ≤ max_bytes
-      go true = omega arith
-      go false = omega arith
+      no_length : (r : Unwritten) → (numbers_of_written (Err r)).length ≤ max_bytes
+      no_length (Refused r) = omega arith
+      no_length (BadLine k) = omega arith

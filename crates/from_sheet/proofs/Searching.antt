@@ -1,23 +1,18 @@
 -- Laws of the search for a program's line and its instructions. Assumes nothing.
 use mathlib.Core.Path.{◌≡◌, refl}
-use mathlib.Core.Logic.{◌⊎◌, inl, inr}
 use mathlib.Core.Bool.{true, false}
 use mathlib.Core.List.{List, [], ◌∷◌, ◌++◌}
 use Prim.Native.Nat.{ℕ, zero, suc, ◌+◌, ◌-◌, ◌≤◌, ◌<◌}
 use native.Mathlib.Omega.{arith}
-use native.Mathlib.Numerals.{add-one}
-use lib.Dec.{leb}
 use lib.ListN.{length, get_or}
-use borrow.Author.Tests.{leb-true, leb-false}
-use Rattle.base.proofs.Bools.{clash, known}
+use Rattle.base.proofs.Bools.{clash}
 use Rattle.image.specs.Instruction.{wrong_byte}
 use Rattle.sheet.specs.declared.Line.{Line}
 use Rattle.sheet.specs.declared.Line.TheVariants as line
 use Rattle.sheet.specs.Sheet.{leading, programs}
 use Rattle.from_sheet.specs.Passes.{lines_from, body_of}
-use Rattle.from_sheet.specs.declared.finding.Beginning.{Beginning}
 use Rattle.from_sheet.specs.WrongLines.{begins, left_behind, lines_to, begins_at, program_at, wrong_line, Begins}
-use Rattle.from_sheet.proofs.Passing.{lines_all, lines_none}
+use Rattle.from_sheet.proofs.Passing.{lines_all}
 
 -- ---- the instructions of a program: they end where the next begins
 
@@ -46,11 +41,8 @@ pub record Search (all : List Line) (p : ℕ) (ls : List Line) (behind left : �
   pub program_is : get_or (leading ls ∷ programs ls) left [] ≡ get_or (programs all) p []
   pub some : left ≤ length (programs ls)
 
-pub search_start : (all : List Line) (p : ℕ) → p < length (programs all) → Search all p all 0 (p + 1)
-search_start all p l = record { line_is = omega arith; program_is = rw (add-one p); some = omega arith }
-
 -- a line more
-pub search_next : {all : List Line} {p : ℕ} (l : Line) (ls : List Line) {behind : ℕ} (left : ℕ) → 0 < left → Search all p (l ∷ ls) behind left
+search_next : {all : List Line} {p : ℕ} (l : Line) (ls : List Line) {behind : ℕ} (left : ℕ) → 0 < left → Search all p (l ∷ ls) behind left
     → Search all p ls (behind + 1) (left_behind left l)
 unfolding begins left_behind lines_to leading programs
 search_next l ls zero some s = absurd (omega arith)
@@ -61,29 +53,35 @@ search_next line.Program ls (suc n) some s =
 search_next (line.Instruction i) ls (suc n) some s = record { line_is = omega (arith, s.line_is); program_is = s.program_is; some = s.some }
 search_next line.Other ls (suc n) some s = record { line_is = omega (arith, s.line_is); program_is = s.program_is; some = s.some }
 
--- while one is still to come there is a line
-pub search_there : (sheet : List ℕ) (at : ℕ) {all : List Line} {p behind left : ℕ} → Search all p (lines_from at sheet) behind left → 0 < left
-    → at ≤ length sheet
-unfolding programs
-search_there sheet at s some = go (known (leb at (length sheet)))
-  where
-    go : (leb at (length sheet) ≡ true) ⊎ (leb at (length sheet) ≡ false) → at ≤ length sheet
-    go (inl e) = leb-true at (length sheet) e
-    go (inr e) = absurd (omega (arith, rw (lines_none sheet at (leb-false at (length sheet) e)) at s.some))
+pub search_program : {all : List Line} {p : ℕ} {l : Line} {ls : List Line} {behind : ℕ} (left : ℕ) → begins l ≡ true
+    → Search all p (l ∷ ls) behind (left + 1) → Search all p ls (behind + 1) left
+unfolding left_behind
+search_program {l = l} {ls = ls} left e s =
+    let less : left + 1 - 1 ≡ left = omega arith in
+    rw (e, less) at (search_next l ls (left + 1) (omega arith) s)
 
--- when none is, the line is found
-pub search_end : {all : List Line} {p : ℕ} {ls : List Line} {behind left : ℕ} → left ≡ 0 → Search all p ls behind left
+pub search_other : {all : List Line} {p : ℕ} {l : Line} {ls : List Line} {behind : ℕ} (left : ℕ) → begins l ≡ false
+    → Search all p (l ∷ ls) behind (left + 1) → Search all p ls (behind + 1) (left + 1)
+unfolding left_behind
+search_other {l = l} {ls = ls} left e s = rw e at (search_next l ls (left + 1) (omega arith) s)
+
+-- while one is still to come there is a line; when none is, the line is found
+pub search_there : {all : List Line} {p behind : ℕ} (left : ℕ) → Search all p [] behind (left + 1) → ⊥
+unfolding programs
+search_there left s = omega (arith, s.some)
+
+pub search_end : {all : List Line} {p : ℕ} {ls : List Line} {behind : ℕ} → Search all p ls behind 0
     → (behind ≡ begins_at p all) × (leading ls ≡ get_or (programs all) p [])
 unfolding lines_to
-search_end {ls = ls} e s = let t = rw e at s in (omega (arith, t.line_is, none_to ls), t.program_is)
+search_end {ls = ls} s = (omega (arith, s.line_is, none_to ls), s.program_is)
   where
     none_to : (ls : List Line) → lines_to ls 0 ≡ 0
     none_to [] = refl
     none_to (l ∷ ls) = refl
 
--- ---- the line of an instruction, with the beginning and the byte that the code has
+-- ---- the line of an instruction, with what the code has found
 
-pub wrong_line_is : (sheet : List ℕ) (p i : ℕ) {b : Beginning} {program : List ℕ} {byte : ℕ} → Begins sheet p b → program ≡ program_at sheet p
-    → byte ≡ wrong_byte program i → record { line = b.line + 1 + i; byte = byte } ≡ wrong_line sheet p i
+pub wrong_line_is : (sheet : List ℕ) (p i : ℕ) {begun : ℕ} {rest : List Line} {program : List ℕ} {byte : ℕ} → Begins (lines_from 0 sheet) p begun rest
+    → program ≡ program_at sheet p → byte ≡ wrong_byte program i → record { line = begun + 1 + i; byte = byte } ≡ wrong_line sheet p i
 unfolding wrong_line
 wrong_line_is sheet p i h e f = rw (f, e, h.line_is, lines_all sheet)

@@ -1,17 +1,22 @@
 -- The instruction that a sheet's refusal names is there, and its program is not too long: the checks before it have passed. Assumes nothing.
-use mathlib.Core.Path.{◌≡◌, refl}
+use mathlib.Core.Path.{◌≡◌}
 use mathlib.Core.Bool.{Bool, true}
 use mathlib.Core.List.{List, [], ◌∷◌}
 use Prim.Native.Nat.{ℕ, zero, suc, ◌<◌}
 use native.Mathlib.Omega.{arith}
 use lib.Dec.{eqb, leb}
+use Rattle.std.specs.Prelude.{Err}
 use lib.ListN.{length, get_or}
 use borrow.Author.Tests.{leb-true}
 use Rattle.base.proofs.Bools.{and_both}
 use Rattle.image.specs.Limits.{max_programs, max_program_bytes}
-use Rattle.image.specs.declared.Refusal.{Refusal}
-use Rattle.image.specs.Refusals.{says_where}
-use Rattle.image.proofs.There.{behind, code_there}
+use Rattle.image.specs.declared.refusals.BadInstruction.{BadInstruction}
+use Rattle.image.specs.declared.refusals.ImageRefusal.TheVariants.{Header, Offsets, Instruction}
+use Rattle.image.specs.declared.refusals.Refusal.TheVariants.{Image}
+use Rattle.image.proofs.Refusing.{behind, refused_given}
+use Rattle.image.proofs.There.{code_there}
+use Rattle.sheet.specs.declared.Unwritten.TheVariants.{Refused, BadLine}
+use Rattle.sheet.specs.Answers.{as_image}
 use Rattle.sheet.specs.Sheet.{bad_line}
 use Rattle.from_sheet.specs.FromSheet.{programs_of, all, few_programs, short_programs, programs_fault, programs_refusal, sheet_refusal}
 use Rattle.from_sheet.specs.WrongLines.{Stands}
@@ -22,22 +27,22 @@ all_at test [] e p l = absurd (omega arith)
 all_at test (q ∷ ps) e zero l = (and_both (test q) (all test ps) e).0
 all_at test (q ∷ ps) e (suc p) l = all_at test ps (and_both (test q) (all test ps) e).1 p (omega arith)
 
-module _ (sheet : List ℕ) where
-  abbrev Named : Refusal → Type 0
-  Named r = Stands sheet r.program r.instruction
-
-  pub refusal_stands : says_where (sheet_refusal sheet).number ≡ true → Named (sheet_refusal sheet)
-  unfolding sheet_refusal programs_refusal few_programs short_programs programs_fault says_where
-  refusal_stands =
-      let ps = programs_of sheet in
-      behind Named (eqb (bad_line sheet) 0) _ _ refl
-      (λ allowed. behind Named (few_programs ps) _ _ refl
-      (λ few. behind Named (short_programs ps) _ _ refl
-      (λ short e.
-      let t = code_there (length ps) (λ p. get_or ps p []) e in
-      record {
-        few = omega (arith, t.program_there, leb-true (length ps) max_programs few);
-        program_there = t.program_there;
-        program_short = leb-true _ _ (all_at (λ p. leb (length p) max_program_bytes) ps short _ t.program_there);
-        instruction_there = t.instruction_there;
-      })))
+pub refusal_stands : (sheet : List ℕ) {bad : BadInstruction} → sheet_refusal sheet ≡ Err (Refused (Image (Instruction bad)))
+    → Stands sheet bad.program bad.instruction
+unfolding sheet_refusal programs_refusal few_programs short_programs programs_fault
+refusal_stands sheet {bad} e =
+    let ps = programs_of sheet in
+    let allowed = behind (eqb (bad_line sheet) 0) (BadLine (bad_line sheet)) _ (λ z. cc) e in
+    let refused = refused_given as_image (programs_refusal ps) allowed.1 in
+    let is : programs_refusal ps ≡ Err (Instruction bad) = cc in
+    let few = behind (few_programs ps) Header _ (λ z. cc) is in
+    let short = behind (short_programs ps) Offsets _ (λ z. cc) few.1 in
+    let found = refused_given Instruction (programs_fault ps) short.1 in
+    let that : programs_fault ps ≡ Err bad = cc in
+    let t = code_there (length ps) (λ p. get_or ps p []) bad that in
+    record {
+      few = omega (arith, t.program_there, leb-true (length ps) max_programs few.0);
+      program_there = t.program_there;
+      program_short = leb-true _ _ (all_at (λ p. leb (length p) max_program_bytes) ps short.0 _ t.program_there);
+      instruction_there = t.instruction_there;
+    }

@@ -1,7 +1,7 @@
 -- Document 02, ask 1: the image of a sheet, and what the call answers and leaves. "Refusals, from a sheet: 51 the first line that its place does not
 -- allow .. with its number from 1; 2 over 64 programs; 3 a program over 32 instructions; 4; then 10 for a short output", where ask 2 replaces 4 by 41 to 44,
 -- with program and instruction. Each is looked for over the whole sheet before the next. Assumes nothing.
-use Rattle.std.specs.Prelude.{ℕ, ◌≡◌, Bool, true, cond, ◌&&◌, List, [], ◌∷◌, ◌++◌, eqb, leb, length, get_or, drop, Result, Ok, Err}
+use Rattle.std.specs.Prelude.{ℕ, ◌≡◌, Bool, true, ◌&&◌, List, [], ◌∷◌, ◌++◌, eqb, leb, length, get_or, drop, Result, Ok, Err}
 use Rattle.image.specs.Limits.{max_programs, max_program_bytes}
 use Rattle.image.specs.declared.refusals.BadInstruction.{BadInstruction}
 use Rattle.image.specs.declared.refusals.ImageRefusal.{ImageRefusal}

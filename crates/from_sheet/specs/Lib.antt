@@ -1,4 +1,5 @@
 pub mod FromSheet
 pub mod Passes
+pub mod Lines
 pub mod WrongLines
 pub mod Opened

@@ -1,30 +1,24 @@
 -- How a sheet is gone through, line by line: what each pass has still to do. Assumes nothing.
-use Rattle.std.specs.Prelude.{ℕ, zero, suc, ◌+◌, ◌-◌, ◌≤◌, ◌<◌, max, ◌≡◌, Bool, true, cond, ◌&&◌, List, [], ◌∷◌, ◌++◌, map, eqb, leb, length, take, drop, Result, Ok, Err}
-use Rattle.text.specs.Writing.{Wrote, Room}
+use Rattle.std.specs.Prelude.{ℕ, zero, suc, ◌+◌, ◌-◌, ◌≤◌, ◌<◌, max, ◌≡◌, Bool, true, cond, ◌&&◌, List, [], ◌∷◌, ◌++◌}
+use Rattle.std.specs.Prelude.{map, eqb, leb, length, take, drop, Result, Ok, Err}
+use Rattle.text.specs.Writing.{Room}
 use Rattle.image.specs.Limits.{max_programs, max_program_bytes, max_bytes}
 use Rattle.image.specs.declared.refusals.BadInstruction.{BadInstruction}
 use Rattle.image.specs.Refusals.{passed, after}
 use Rattle.image.specs.Instruction.{program_fault}
-use Rattle.writer.specs.declared.Place.{Place}
 use Rattle.writer.specs.Joined.{number}
+use Rattle.sheet.specs.declared.Unwritten.{Unwritten}
 use Rattle.sheet.specs.declared.Line.{Line}
 use Rattle.sheet.specs.declared.Line.TheVariants as line
 use Rattle.sheet.specs.Split.{split}
 use Rattle.sheet.specs.Sheet.{newline, line_of, bad_line, bytes_of, leading, programs}
-use Rattle.from_sheet.specs.declared.counting.Found.{Found}
 use Rattle.from_sheet.specs.declared.counting.Sizes.{Sizes}
 use Rattle.from_sheet.specs.declared.checking.Reading.{Reading}
-use Rattle.from_sheet.specs.FromSheet.{image_of_sheet, short_programs}
+use Rattle.from_sheet.specs.FromSheet.{image_of_sheet, short_programs, sheet_refusal}
 
 -- the lines from a place on, which is one part's beginning, and none behind the last
 unfoldable pub lines_from : (at : ℕ) → List ℕ → List Line
 lines_from at sheet = cond (leb at (length sheet)) (map line_of (split newline (drop at sheet))) []
-
--- the first of them, and where the next begins
-pub record Finds (sheet : List ℕ) (at : ℕ) (f : Found) : Type 0 where
-  pub lines : lines_from at sheet ≡ f.line ∷ lines_from f.next sheet
-  pub on : at < f.next
-  pub within : f.next ≤ length sheet + 1
 
 -- ---- counting: how many programs, how many instructions, how many in this program, and how many in the longest
 
@@ -67,6 +61,11 @@ pub record Sized (sheet : List ℕ) (s : Sizes) : Type 0 where
   pub sizes_are : s ≡ tally nothing (lines_from 0 sheet)
   pub nothing_leads : leading (lines_from 0 sheet) ≡ []
 
+-- what checks 51 to 44 answer: the sizes of a sheet that is not refused, or its refusal
+abbrev pub Checks : List ℕ → Result Sizes Unwritten → Type 0
+Checks sheet (Ok sizes) = Sized sheet sizes × (sheet_refusal sheet ≡ passed)
+Checks sheet (Err r) = sheet_refusal sheet ≡ Err r
+
 -- ---- what a line brings
 
 -- the bytes of its instruction
@@ -92,11 +91,6 @@ unfoldable pub offsets_from : (end : ℕ) → List Line → List ℕ
 offsets_from end [] = number end
 offsets_from end (l ∷ ls) = offset_at end l ++ offsets_from (end + length (body_of l)) ls
 
--- What writing it leaves, and what it needs: the program that is being read ends so far at `end`.
-pub record Offset (before : List ℕ) (place : Place) (l : Line) (after : List ℕ) (r : Place) : Type 0 where
-  pub wrote : Wrote before place.to (offset_at place.end l) after r.to
-  pub end_is : r.end ≡ place.end + length (body_of l)
-
 -- ---- reading a program, of which there are some bytes already
 
 -- with a line more: a new one begins, or its instruction goes behind them
@@ -113,16 +107,17 @@ begun_after begun line.Program = begun + 1
 begun_after begun (line.Instruction i) = begun
 begun_after begun line.Other = begun
 
--- what has been found when this one is looked at too, by its number: before the first "program" there is none, and no byte to look at
-unfoldable pub found_with : (found : Result (Unit {0}) BadInstruction) (begun : ℕ) (bytes : List ℕ) → Result (Unit {0}) BadInstruction
-found_with found begun bytes = after found (program_fault (begun - 1) bytes)
+-- where a new one begins, this one is looked at: before the first "program" there is none, and no byte to look at
+unfoldable pub found_at : (begun : ℕ) (bytes : List ℕ) → Line → Result (Unit {0}) BadInstruction
+found_at begun bytes (line.Rule r) = passed
+found_at begun bytes line.Program = program_fault (begun - 1) bytes
+found_at begun bytes (line.Instruction i) = passed
+found_at begun bytes line.Other = passed
 
--- where a new one begins, the one before it is looked at
-unfoldable pub found_after : (found : Result (Unit {0}) BadInstruction) (begun : ℕ) (bytes : List ℕ) → Line → Result (Unit {0}) BadInstruction
-found_after found begun bytes (line.Rule r) = found
-found_after found begun bytes line.Program = found_with found begun bytes
-found_after found begun bytes (line.Instruction i) = found
-found_after found begun bytes line.Other = found
+-- one name that opens what a line does
+unfoldable pub line_opened : Unit {0}
+unfolding body_of read_after begun_after found_at
+line_opened = tt
 
 -- What that needs: the room is one for the longest program, its bytes stand there, and no more have begun than there may be.
 pub record InRoom (room : List ℕ) (s : Reading) : Type 0 where
@@ -130,13 +125,17 @@ pub record InRoom (room : List ℕ) (s : Reading) : Type 0 where
   pub used_few : s.used ≤ length room
   pub begun_few : s.begun ≤ max_programs
 
--- What it leaves.
-pub record Reads (before : List ℕ) (s : Reading) (l : Line) (after : List ℕ) (r : Reading) : Type 0 where
+-- What it leaves, and where one is bad what it finds.
+pub record Read (before : List ℕ) (s : Reading) (l : Line) (after : List ℕ) (r : Reading) : Type 0 where
+  pub none_bad : found_at s.begun (take s.used before) l ≡ passed
   pub read : take r.used after ≡ read_after (take s.used before) l
   pub begun_is : r.begun ≡ begun_after s.begun l
-  pub found_is : r.found ≡ found_after s.found s.begun (take s.used before) l
   pub used_few : r.used ≤ length after
   pub same_room : length after ≡ length before
+
+abbrev pub Reads : (before : List ℕ) (s : Reading) (l : Line) (after : List ℕ) → Result Reading BadInstruction → Type 0
+Reads before s l after (Ok r) = Read before s l after r
+Reads before s l after (Err bad) = found_at s.begun (take s.used before) l ≡ Err bad
 
 -- the programs that are still to come, and the one that is being read: none is too long
 unfoldable pub still_short : (bytes : List ℕ) → List Line → Bool

@@ -5,10 +5,8 @@ use Rattle.image.specs.Instruction.{instructions_of, wrong_byte}
 use Rattle.sheet.specs.declared.Line.{Line}
 use Rattle.sheet.specs.declared.Line.TheVariants as line
 use Rattle.sheet.specs.Sheet.{lines_of, leading, programs}
-use Rattle.from_sheet.specs.declared.finding.Beginning.{Beginning}
 use Rattle.from_sheet.specs.declared.finding.WrongLine.{WrongLine}
 use Rattle.from_sheet.specs.FromSheet.{programs_of}
-use Rattle.from_sheet.specs.Passes.{lines_from}
 
 -- "for each program a line "program"": a line begins a program
 unfoldable pub begins : Line → Bool
@@ -45,8 +43,8 @@ pub record Stands (sheet : List ℕ) (p i : ℕ) : Type 0 where
   pub program_short : length (program_at sheet p) ≤ max_program_bytes
   pub instruction_there : i < instructions_of (program_at sheet p)
 
--- What is found of program p: its line, and behind it its instructions.
-pub record Begins (sheet : List ℕ) (p : ℕ) (b : Beginning) : Type 0 where
-  pub line_is : b.line ≡ begins_at p (lines_from 0 sheet)
-  pub line_few : b.line ≤ length sheet + 1
-  pub program_is : leading (lines_from b.next sheet) ≡ get_or (programs (lines_from 0 sheet)) p []
+-- What is found of program p among lines: the number of the line that begins it, and the lines behind that one, which are its instructions at first.
+pub record Begins (ls : List Line) (p line : ℕ) (rest : List Line) : Type 0 where
+  pub line_is : line ≡ begins_at p ls
+  pub line_few : line ≤ length ls
+  pub program_is : leading rest ≡ get_or (programs ls) p []

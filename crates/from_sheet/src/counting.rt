@@ -1,7 +1,7 @@
 // The first pass over a sheet: its first bad line, and its sizes.
-ghost use Rattle.std.specs.Prelude.{◌≡◌, ◌≤◌, ◌<◌, ◌^◌, length};
+ghost use Rattle.std.specs.Prelude.{◌≡◌, ◌<◌, ◌^◌};
 ghost use Rattle.sheet.specs.Sheet.{allowed};
-ghost use Rattle.from_sheet.specs.Passes.{counted, last_bad, checked_line, Finds, Small, Surveys};
+ghost use Rattle.from_sheet.specs.Passes.{counted, last_bad, checked_line, Small, Surveys};
 
 use crate::NEWLINE;
 
@@ -15,6 +15,7 @@ pub struct Sizes {
 }
 
 // Whether a place allows a line.
+#[tactic(auto, unfolding(sheet::specs::Sheet::allowed))]
 fn allowed(place: usize, line: sheet::Line) -> bool
     ensures { result ≡ allowed place line }
 {
@@ -27,6 +28,7 @@ fn allowed(place: usize, line: sheet::Line) -> bool
 }
 
 // The last line, where something stands behind the last newline, and a first line that is missing, are not allowed: their number.
+#[tactic(auto, unfolding(crate::specs::Passes::last_bad, crate::specs::Passes::checked_line))]
 fn last_checked(place: usize, rest: usize) -> Result<(), usize>
     requires { place < 2 ^ 63 }
     ensures { result ≡ checked_line (last_bad place rest) }
@@ -37,49 +39,30 @@ fn last_checked(place: usize, rest: usize) -> Result<(), usize>
     if rest == 0 { Ok(()) } else { Err(place + 1) }
 }
 
-// A line, and where the next one begins.
-#[derive(Clone, Copy)]
-pub struct Found {
-    pub line: sheet::Line,
-    pub next: usize,
-}
-
-// The line that begins at a place.
-pub fn next_line(sheet: &[u8], at: usize) -> Found
-    requires { at ≤ length sheet.now }
-    ensures { Finds sheet.now at result }
-{
-    let end = sheet::part_end(sheet, at, NEWLINE);
-    Found {
-        line: sheet::line_of(&sheet[at..end]),
-        next: end + 1,
-    }
-}
-
 // The sizes with a line more.
+#[tactic(auto, unfolding(crate::specs::Passes::counted))]
 fn counted(sizes: Sizes, line: sheet::Line) -> Sizes
     requires { Small sizes (2 ^ 63) }
     ensures { result ≡ counted sizes line }
 {
     match line {
-        sheet::Line::Rule(_) => sizes,
         sheet::Line::Program => Sizes {
             programs: sizes.programs + 1,
-            instructions: sizes.instructions,
             current: 0,
-            longest: sizes.longest,
+            ..sizes
         },
         sheet::Line::Instruction(_) => Sizes {
-            programs: sizes.programs,
             instructions: sizes.instructions + 1,
             current: sizes.current + 1,
             longest: sizes.longest.max(sizes.current + 1),
+            ..sizes
         },
-        sheet::Line::Other => sizes,
+        sheet::Line::Rule(_) | sheet::Line::Other => sizes,
     }
 }
 
-// Goes through a sheet until a line is not allowed, and answers with its number, from 1, or with the sizes.
+// Goes through a sheet until a line is not allowed, and answers with its number, from 1, or with the sizes. Where a line ends is asked here: the last part
+// is no line, and nothing may stand there.
 pub fn survey_of(sheet: &[u8]) -> Result<Sizes, usize>
     ensures { Surveys sheet.now result }
 {

@@ -1,14 +1,16 @@
 // Which line of a sheet an instruction is, and which byte of it is wrong: document 02, ask 2.
-ghost use Rattle.std.specs.Prelude.{◌≡◌, true, ◌≤◌, ◌<◌, length};
-ghost use Rattle.text.specs.Writing.{Wrote, Room};
+ghost use Rattle.std.specs.Prelude.{◌≡◌, ◌≤◌, ◌<◌, ◌^◌, length};
+ghost use Rattle.text.specs.Writing.{PageSays, Room};
 ghost use Rattle.image.specs.Limits.{max_program_bytes};
 ghost use Rattle.image.specs.Instruction.{instructions_of, wrong_byte};
 ghost use Rattle.sheet.specs.Sheet.{leading, programs};
 ghost use Rattle.from_sheet.specs.Passes.{lines_from};
-ghost use Rattle.from_sheet.specs.WrongLines.{begins, left_behind, wrong_line, Begins, Stands};
+ghost use Rattle.from_sheet.specs.Lines.{lines_left};
+ghost use Rattle.from_sheet.specs.WrongLines.{begins, wrong_line, Begins, Stands};
 
-use crate::counting::next_line;
+use crate::lines::Lines;
 use crate::writing::put_body;
+use text::Page;
 
 // A line of a sheet by its number, from 1, and the byte that is wrong with its instruction.
 #[derive(Clone, Copy)]
@@ -17,81 +19,56 @@ pub struct WrongLine {
     pub byte: u8,
 }
 
-// The number of the line that begins a program, from 1, and where the line behind it begins in the sheet.
-#[derive(Clone, Copy)]
-pub struct Beginning {
-    pub line: usize,
-    pub next: usize,
-}
-
 // Whether a line begins a program.
+#[tactic(auto, unfolding(crate::specs::WrongLines::begins))]
 fn begins(line: sheet::Line) -> bool
     ensures { result ≡ begins line }
 {
-    match line {
-        sheet::Line::Rule(_) => false,
-        sheet::Line::Program => true,
-        sheet::Line::Instruction(_) => false,
-        sheet::Line::Other => false,
-    }
+    matches!(line, sheet::Line::Program)
 }
 
-// How many lines that begin a program are still to come behind a line.
-fn left_behind(left: usize, line: sheet::Line) -> usize
-    requires { 0 < left }
-    ensures { result ≡ left_behind left line }
+// The number of the line that begins program p, which is there, from 1; what is left are the lines behind it. A `for` would not say what it leaves.
+fn beginning_of(lines: &mut Lines<'_>, p: usize) -> usize
+    requires { (p < length (programs (lines_left lines.old))) × (p < 65536) × (length (lines_left lines.old) ≤ 2 ^ 63) }
+    ensures { Begins (lines_left lines.old) p result (lines_left lines.new) }
 {
-    if begins(line) { left - 1 } else { left }
-}
-
-// The line that begins program p, which is there.
-fn beginning_of(sheet: &[u8], p: usize) -> Beginning
-    requires { (p < length (programs (lines_from 0 sheet.now))) × (p < 65536) }
-    ensures { Begins sheet.now p result }
-{
-    let mut left = p + 1;
-    let mut at = 0;
+    let mut left = p;
     let mut number: usize = 0;
-    while 0 < left {
-        let found = next_line(sheet, at);
-        let line = found.line;
-        left = left_behind(left, line);
-        at = found.next;
+    while let Some(line) = lines.next() {
         number += 1;
-    }
-    Beginning {
-        line: number,
-        next: at,
-    }
-}
-
-// The bytes of the instructions from a place on, up to the next program.
-fn read_program(room: &mut [u8], sheet: &[u8], at: usize) -> usize
-    requires { Room room.old 0 (leading (lines_from at sheet.now)) }
-    ensures { Wrote room.old 0 (leading (lines_from at sheet.now)) room.new result }
-{
-    let mut used = 0;
-    let mut from = at;
-    while from <= sheet.len() {
-        let found = next_line(sheet, from);
-        let line = found.line;
         if begins(line) {
-            return used;
+            if left == 0 {
+                return number;
+            }
+            left -= 1;
         }
-        used = put_body(room, used, line);
-        from = found.next;
     }
-    used
+    number
 }
 
-// The byte that is wrong with instruction i of the program whose lines begin at a place.
-fn wrong_in(sheet: &[u8], at: usize, i: usize) -> u8
-    requires { (length (leading (lines_from at sheet.now)) ≤ max_program_bytes) × (i < instructions_of (leading (lines_from at sheet.now))) }
-    ensures { result ≡ wrong_byte (leading (lines_from at sheet.now)) i }
+// The bytes of the instructions of the lines that are left, up to the next program.
+fn read_program(room: &mut [u8], lines: Lines<'_>) -> usize
+    requires { Room room.old 0 (leading (lines_left lines)) }
+    ensures { PageSays (leading (lines_left lines.entry)) room.old result room.new }
+{
+    let mut page = Page::new(room);
+    for line in lines {
+        if begins(line) {
+            break;
+        }
+        put_body(&mut page, line);
+    }
+    page.end()
+}
+
+// The byte that is wrong with instruction i of the program whose lines are left.
+fn wrong_in(lines: Lines<'_>, i: usize) -> u8
+    requires { (length (leading (lines_left lines)) ≤ max_program_bytes) × (i < instructions_of (leading (lines_left lines))) }
+    ensures { result ≡ wrong_byte (leading (lines_left lines.entry)) i }
 {
     let mut room = [0u8; image::Image::PROGRAM_BYTES];
-    let used = read_program(&mut room, sheet, at);
-    image::wrong_byte(&room[0..used], i)
+    let used = read_program(&mut room, lines);
+    image::wrong_byte(&room[..used], i)
 }
 
 // The line of instruction i of program p, which is there, and its wrong byte.
@@ -99,10 +76,10 @@ pub fn wrong_line(sheet: &[u8], p: usize, i: usize) -> WrongLine
     requires { Stands sheet.now p i }
     ensures { result ≡ wrong_line sheet.now p i }
 {
-    let begun = beginning_of(sheet, p);
-    let byte = wrong_in(sheet, begun.next, i);
+    let mut lines = Lines::of(sheet);
+    let begun = beginning_of(&mut lines, p);
     WrongLine {
-        line: begun.line + 1 + i,
-        byte,
+        line: begun + 1 + i,
+        byte: wrong_in(lines, i),
     }
 }

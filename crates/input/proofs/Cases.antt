@@ -3,6 +3,7 @@ use Prim.Native.Nat.{ℕ}
 use mathlib.Core.Path.{◌≡◌, refl}
 use mathlib.Core.List.{List, [], ◌∷◌, map}
 use lib.ListN.{replicate}
+use Rattle.std.specs.Prelude.{Some, None}
 use Rattle.prefix.specs.Prefix.{prefix_bytes}
 use Rattle.input.specs.Prefix.{table_in, guards_in, guards_end, image_from, cells_of}
 use Rattle.input.specs.Opened.{opened}
@@ -12,12 +13,12 @@ abbrev prefix : (low high bytes : ℕ) → List ℕ
 prefix low high bytes = low ∷ high ∷ replicate bytes 7
 
 -- "Fewer bytes than that prefix needs": none, one, and one less than 2 + 4T; exactly as many
-bytes_needed : map cells_of ([] ∷ (1 ∷ []) ∷ prefix 1 0 3 ∷ prefix 1 0 4 ∷ prefix 3 0 11 ∷ prefix 3 0 12 ∷ prefix 3 0 40 ∷ []) ≡ 0 ∷ 0 ∷ 0 ∷ 1 ∷ 0 ∷ 3 ∷ 3 ∷ []
+bytes_needed : map cells_of ([] ∷ (1 ∷ []) ∷ prefix 1 0 3 ∷ prefix 1 0 4 ∷ prefix 3 0 11 ∷ prefix 3 0 12 ∷ prefix 3 0 40 ∷ []) ≡ None ∷ None ∷ None ∷ Some 1 ∷ None ∷ Some 3 ∷ Some 3 ∷ []
 unfolding opened
 bytes_needed = refl
 
 -- "or T outside 1 to 256": 0, 1, 256, 257, each with enough bytes; "low first"
-outside : map cells_of (prefix 0 0 1028 ∷ prefix 1 0 1028 ∷ prefix 0 1 1028 ∷ prefix 1 1 1028 ∷ []) ≡ 0 ∷ 1 ∷ 256 ∷ 0 ∷ []
+outside : map cells_of (prefix 0 0 1028 ∷ prefix 1 0 1028 ∷ prefix 0 1 1028 ∷ prefix 1 1 1028 ∷ []) ≡ None ∷ Some 1 ∷ Some 256 ∷ None ∷ []
 unfolding opened
 outside = refl
 

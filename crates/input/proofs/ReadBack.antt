@@ -10,6 +10,7 @@ use lib.Dec.{leb}
 use lib.ListN.{length, get_or, length-append, get_or-append}
 use lib.Seq.{get_or-append-add, drop_at}
 use borrow.Author.Tests.{le-leb, eqb-true}
+use Rattle.std.specs.Prelude.{Some}
 use Rattle.base.proofs.Bools.{both_and}
 use Rattle.base.proofs.Numbers.{below}
 use Rattle.base.proofs.Tables.{tabulate_is}
@@ -59,7 +60,7 @@ module _ (cells image : List ℕ) (some : min_cells ≤ length cells) (few : len
       ∙ rw (zero_at, byte_of c 1 l (omega arith), byte_of c 2 l (omega arith), byte_of c 3 l (omega arith))
 
   -- T, the table and the image, in turn
-  pub cells_read : cells_of (prefix cells ++ image) ≡ length cells
+  pub cells_read : cells_of (prefix cells ++ image) ≡ Some (length cells)
   unfolding cells_of prefix_good
   cells_read =
       let long : prefix_bytes (length cells) ≤ length (prefix cells ++ image) = omega (arith, length-append (prefix cells) image, prefix_long cells) in

@@ -2,7 +2,7 @@
 // of them before the image. It is read from standard input, and taken apart.
 #![tactic(auto)]
 
-ghost use Rattle.std.specs.Prelude.{◌≡◌, ◌+◌, ◌*◌, ◌≤◌, ◌<◌, length};
+ghost use Rattle.std.specs.Prelude.{◌≡◌, ◌+◌, ◌*◌, ◌≤◌, length, IfSome};
 ghost use Rattle.io.specs.Counts.{IsPrefixLen};
 ghost use Rattle.image.specs.Limits.{max_cells};
 ghost use Rattle.guard.specs.Guards.{guard_words};
@@ -21,51 +21,44 @@ pub const LONGEST: usize = COUNT_BYTES + CELL_BYTES * image::Image::CELLS + imag
 // The same where there are guards before the image.
 pub const LONGEST_GUARDED: usize = LONGEST + CELL_BYTES * guard::ENDS * image::Image::CELLS;
 
-// Reads once, behind the bytes that are there, and answers how many came: 0 at the input's end, and where the read fails, which it tells in the program's name.
-fn read_on(reader: &mut impl Read, program: &[u8], input: &mut [u8], there: usize) -> usize
-    requires { there ≤ length input.old }
-    ensures { (there + result ≤ length input.old) × (length input.new ≡ length input.old) }
+// Reads until what is lent is full or nothing more comes, and answers how many bytes came. A read that fails is told, and ends it.
+pub fn read_full<F: FnOnce()>(reader: &mut impl Read, room: &mut [u8], failed: F) -> usize
+    requires { F.IsAlwaysCallable failed }
+    ensures { IsPrefixLen result room.new }
 {
-    match reader.read(&mut input[there..]) {
-        Ok(got) => got,
-        Err(_) => {
-            output::complain(program, b"standard input cannot be read");
-            0
-        }
-    }
-}
-
-// Reads until what is lent is full or nothing more comes, and answers how many bytes came.
-pub fn read_input(rt: &impl Input, program: &[u8], input: &mut [u8]) -> usize
-    ensures { IsPrefixLen result input.new }
-{
-    let mut reader = rt.reader();
     let mut there = 0;
-    while there < input.len() {
-        let more = read_on(&mut reader, program, input, there);
-        if more == 0 {
-            break;
+    while there < room.len() {
+        match reader.read(&mut room[there..]) {
+            Ok(0) => break,
+            Ok(more) => there += more,
+            Err(_) => {
+                failed();
+                return there;
+            }
         }
-        there += more;
     }
     there
 }
 
-// A byte as a word.
-fn wide(byte: u8) -> u32
-    ensures { (result ≡ byte) × (result < 256) }
+// Standard input, into what is lent.
+pub fn read_input(rt: &impl Input, program: &[u8], input: &mut [u8]) -> usize
+    ensures { IsPrefixLen result input.new }
 {
-    byte as u32
+    read_full(&mut rt.reader(), input, || {
+        output::complain(program, b"standard input cannot be read")
+    })
 }
 
 // T, where the prefix is good: the input has the bytes that it needs, and T is within 1 to 256.
+#[tactic(auto, unfolding(crate::specs::Prefix::cells_of, crate::specs::Prefix::prefix_good, image::specs::Image::number_at))]
 pub fn cells_of(input: &[u8]) -> Option<usize>
-    ensures { result ≡ cells_of input.now }
+    ensures named { result ≡ cells_of input.now }
+    ensures there { IfSome result (λ T. (T ≤ max_cells) × (prefix_bytes T ≤ length input.now)) }
 {
     if input.len() < COUNT_BYTES {
         return None;
     }
-    let cells = (wide(input[0]) + 256 * wide(input[1])) as usize;
+    let cells = usize::from(u16::from_le_bytes([input[0], input[1]]));
     if !(image::Image::LEAST_CELLS..=image::Image::CELLS).contains(&cells) {
         return None;
     }
@@ -76,24 +69,22 @@ pub fn cells_of(input: &[u8]) -> Option<usize>
 }
 
 // The word of four bytes at a place, low first.
+#[tactic(auto, unfolding(crate::specs::Prefix::word_at))]
 fn word_at(input: &[u8], at: usize) -> u32
     requires { at + 4 ≤ length input.now }
     ensures { result ≡ word_at input.now at }
 {
-    wide(input[at])
-        + 256 * wide(input[at + 1])
-        + 65536 * wide(input[at + 2])
-        + 16777216 * wide(input[at + 3])
+    u32::from_le_bytes([input[at], input[at + 1], input[at + 2], input[at + 3]])
 }
 
 // The words from a place on, as many as fill what is lent.
+#[tactic(auto, using(base::proofs::Tables::tabulate_is))]
 fn read_words(input: &[u8], at: usize, words: &mut [u32])
     requires { at + 4 * length words.old ≤ length input.now }
     ensures { words.new ≡ words_from input.now at (length words.old) }
 {
-    let n = words.len();
-    for i in 0..n {
-        words[i] = word_at(input, at + CELL_BYTES * i);
+    for (i, word) in words.iter_mut().enumerate() {
+        *word = word_at(input, at + CELL_BYTES * i);
     }
 }
 

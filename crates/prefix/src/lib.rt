@@ -9,7 +9,7 @@ ghost use Rattle.image.specs.Limits.{max_cells};
 ghost use Rattle.prefix.specs.Prefix.{fours, prefix, prefix_bytes, guard_bytes};
 
 // The bytes of the longest prefix.
-const MOST: usize = 2 + 4 * image::Image::CELLS;
+pub const MOST: usize = 2 + 4 * image::Image::CELLS;
 
 // Room for every prefix.
 pub fn room() -> [u8; MOST]
@@ -42,7 +42,7 @@ pub fn put_prefix(out: &mut [u8], cells: &[u32]) -> usize
 }
 
 // The bytes of the most guards.
-const MOST_GUARDS: usize = 4 * guard::ENDS * image::Image::CELLS;
+pub const MOST_GUARDS: usize = 4 * guard::ENDS * image::Image::CELLS;
 
 // Room for the guards of every table.
 pub fn guards_room() -> [u8; MOST_GUARDS]

@@ -1,23 +1,19 @@
 -- What the table and the area at a batch's end say, in the paper's words: who is committed, who is carried, and the listed order. Assumes nothing.
 use Prim.Native.Nat.{ℕ, ◌≤◌, ◌<◌}
 use mathlib.Core.Path.{◌≡◌, refl, sym, ◌∙◌, ap}
-use mathlib.Core.Logic.{◌⊎◌, inl, inr}
-use mathlib.Core.Bool.{Bool, true, false, not, cond, ◌&&◌}
+use mathlib.Core.Bool.{true, false, not, ◌&&◌}
 use mathlib.Core.List.{List}
 use native.Mathlib.Omega.{arith}
 use lib.Dec.{ltb}
 use lib.ListN.{length, get_or-eq_default}
-use borrow.Author.Tests.{eq-eqb, ltb-true, ltb-false}
+use borrow.Author.Tests.{eq-eqb, ltb-true}
 use Rattle.base.specs.Words.{count, some, has, distinct}
-use Rattle.base.proofs.Bools.{known, clash, and_same}
+use Rattle.base.proofs.Bools.{and_same}
 use Rattle.base.proofs.Counts.{count_ext}
 use Rattle.image.specs.Image.{count_of}
 use Rattle.slot.specs.declared.Group.TheVariants.{Committed, Carried}
 use Rattle.slot.specs.declared.ListKind.{ListKind}
-use Rattle.slot.specs.States.{waiting, committed, carried, is_committed, is_carried, is_done, is_in}
-use Rattle.machine.specs.declared.Run.{Run}
-use Rattle.machine.specs.declared.Run.TheVariants.{Finished, Rejected, Faulted}
-use Rattle.machine.specs.Runs.{keeps, state_of_run}
+use Rattle.slot.specs.States.{waiting, is_committed, is_carried, is_done, is_in}
 use Rattle.area.specs.declared.MarkKind.{MarkKind}
 use Rattle.area.specs.Layout.{area_words, state_at, state_of, detail_of, in_group, reads_of, stores_of}
 use Rattle.area.specs.Marks.{list_for, depends}
@@ -28,7 +24,8 @@ use Rattle.causes.specs.Causes.{cause_of}
 use Rattle.causes.proofs.Naming.{found}
 use Rattle.listing.specs.Listing.{committed_count, order_of, order_exists}
 use Rattle.listing.proofs.Taken.{listed_ext}
-use Rattle.promises.specs.Paper.{Batch, batch_of, keeps_stores, gets_settled, read_set, write_set, touches, rule1, rule2, commits, state_after, detail_after, table_after}
+use Rattle.promises.specs.Paper.{Batch, batch_of, keeps_stores, gets_settled, read_set, write_set, touches, commits}
+use Rattle.promises.specs.Paper.{state_after, detail_after, table_after}
 use Rattle.promises.specs.Laid.{World, all, paper_world}
 use Rattle.promises.specs.History.{RunToEnd}
 use Rattle.promises.specs.Causes.{TrueCause}
@@ -42,69 +39,27 @@ use Rattle.promises.proofs.PaperOrder.{paper_order, order_members, order_distinc
 
 -- ---- how a program ends, by the paper
 
--- a run that is not kept is neither committed nor carried: it is done with
-run_uncommitted : (r : Run) → keeps r ≡ false → is_committed (state_of_run r) ≡ false
-unfolding is_committed
-run_uncommitted Finished e = refl
-run_uncommitted (Rejected code) e = refl
-run_uncommitted (Faulted kind at) e = refl
-
-run_uncarried : (r : Run) → keeps r ≡ false → is_carried (state_of_run r) ≡ false
-unfolding is_carried
-run_uncarried Finished e = refl
-run_uncarried (Rejected code) e = refl
-run_uncarried (Faulted kind at) e = refl
-
-run_done : (r : Run) → keeps r ≡ false → is_done (state_of_run r) ≡ not (is_carried (state_of_run r))
-unfolding is_done is_committed is_carried
-run_done Finished e = clash refl e
-run_done (Rejected code) e = refl
-run_done (Faulted kind at) e = refl
-
 module _ (b : Batch) (k : ℕ) where
-  -- each is shown of the answer that the run gave
-  by_answer : (P : ℕ → Bool → Bool → Type 0) → P committed true true → P carried true false
-      → ((r : Run) → keeps r ≡ false → P (state_of_run r) false false) → P (state_after b k) (gets_settled b k) (commits b k)
-  unfolding state_after
-  by_answer P x y z =
-      go (b.runs k).answer refl (gets_settled b k) (settled_keeps b k) (commits b k) (commits_keeps b k)
-    where
-      go : (r : Run) → r ≡ (b.runs k).answer → (g : Bool) → g ≡ keeps (b.runs k).answer → (c : Bool) → (c ≡ true → keeps (b.runs k).answer ≡ true)
-          → P (cond g (cond c committed carried) (state_of_run (b.runs k).answer)) g c
-      go r e true f true h = x
-      go r e true f false h = y
-      go r e false f true h = clash (h refl) (sym f)
-      go r e false f false h = z (b.runs k).answer (sym f)
-
   pub committed_is : is_committed (state_after b k) ≡ commits b k
-  unfolding is_committed
-  committed_is = by_answer (λ s g c. is_committed s ≡ c) refl refl run_uncommitted
+  unfolding is_committed state_after
+  committed_is = grind (arith, commits_keeps b k, settled_keeps b k)
 
   pub carried_is : is_carried (state_after b k) ≡ gets_settled b k && not (commits b k)
-  unfolding is_carried
-  carried_is = by_answer (λ s g c. is_carried s ≡ g && not c) refl refl run_uncarried
+  unfolding is_carried state_after
+  carried_is = grind (arith, settled_keeps b k)
 
   -- committed, rejected and faulted are all the ends but one
   pub done_is : is_done (state_after b k) ≡ not (is_carried (state_after b k))
-  unfolding is_done is_committed is_carried
-  done_is = by_answer (λ s g c. is_done s ≡ not (is_carried s)) refl refl run_done
+  unfolding is_done is_committed is_carried state_after
+  done_is = grind (arith, settled_keeps b k)
 
 -- nothing is earlier than program 0, so it has nothing against it
 pub zero_commits : (b : Batch) → commits b 0 ≡ keeps_stores b 0
 unfolding commits touches some
-zero_commits b = go (keeps_stores b 0) b.second
-  where
-    go : (f second : Bool) → f && cond second (rule2 false false false) (rule1 false false) ≡ f
-    go true true = refl
-    go true false = refl
-    go false second = refl
+zero_commits b = grind arith
 
 pub zero_ends : (b : Batch) → is_carried (state_after b 0) ≡ false
-zero_ends b = carried_is b 0 ∙ rw (zero_commits b, settled_keeps b 0) (go (keeps_stores b 0))
-  where
-    go : (x : Bool) → x && not x ≡ false
-    go true = refl
-    go false = refl
+zero_ends b = grind (arith, carried_is b 0, zero_commits b, settled_keeps b 0)
 
 waiting_uncarried : is_carried waiting ≡ false
 unfolding is_carried
@@ -117,8 +72,8 @@ state_past : (T n k : ℕ) (a : List ℕ) → length a ≡ area_words T n → n 
 unfolding state_of
 state_past T n k a e l = get_or-eq_default a 0 {n = state_at T k} (omega arith)
 
--- all that is asked of the end here: the table is the paper's, the checks pass, each slot tells its program's state, detail, reads and stores, the marks
--- decide as the paper does, and the cells that they show are those of the runs
+-- all that is asked of the end here: the table is the paper's, the checks pass, each slot tells its program's state, detail, reads and stores, the
+-- marks decide as the paper does, and the cells that they show are those of the runs
 pub record PaperEnd (image t g : List ℕ) (w : World) : Type 0 where
   pub table_is : w.table ≡ table_after (batch_of image t g) t
   pub checks : Checked image w.table w.area
@@ -127,8 +82,10 @@ pub record PaperEnd (image t g : List ℕ) (w : World) : Type 0 where
   pub detail_is : (k : ℕ) → k < count_of image → detail_of (length t) k w.area ≡ detail_after (batch_of image t g) k
   pub reads_are : (k : ℕ) → k < count_of image → reads_of (length t) k w.area ≡ read_set (batch_of image t g) k
   pub stores_are : (k : ℕ) → k < count_of image → stores_of (length t) k w.area ≡ write_set (batch_of image t g) k
-  pub decides : (k : ℕ) → k < count_of image → gets_settled (batch_of image t g) k ≡ true → verdict image (length t) k w.area ≡ decision_on (batch_of image t g) k
-  pub depends_is : (k : ℕ) → k < count_of image → (l : ListKind) (m : MarkKind) → depends l m (length t) k w.area ≡ touches l (list_for m) (batch_of image t g) k
+  pub decides : (k : ℕ) → k < count_of image → gets_settled (batch_of image t g) k ≡ true
+      → verdict image (length t) k w.area ≡ decision_on (batch_of image t g) k
+  pub depends_is : (k : ℕ) → k < count_of image → (l : ListKind) (m : MarkKind)
+      → depends l m (length t) k w.area ≡ touches l (list_for m) (batch_of image t g) k
   pub causes : (k : ℕ) → k < count_of image → (l : ListKind) (m : MarkKind) → depends l m (length t) k w.area ≡ true
       → TrueCause l (list_for m) (batch_of image t g) k (cause_of l m (length t) k w.area)
 
@@ -197,8 +154,6 @@ module _ {image t g : List ℕ} {w : World} (end : PaperEnd image t g w) where
   -- program 0 is not carried; where there is none, the area ends before its slot
   pub end_zero : in_group Carried (length t) w.area 0 ≡ false
   unfolding in_group is_in
-  end_zero = go (known (ltb 0 (count_of image)))
-    where
-      go : (ltb 0 (count_of image) ≡ true) ⊎ (ltb 0 (count_of image) ≡ false) → is_carried (state_of (length t) 0 w.area) ≡ false
-      go (inl e) = rw (end.state_is 0 (ltb-true _ _ e)) (zero_ends (batch_of image t g))
-      go (inr e) = ap is_carried (state_past (length t) (count_of image) 0 w.area (rw end_sized at end.checks.sized) (ltb-false _ _ e)) ∙ waiting_uncarried
+  end_zero =
+      let past = state_past (length t) (count_of image) 0 w.area (rw end_sized at end.checks.sized) in
+      grind (arith, end.state_is 0, zero_ends (batch_of image t g), past, waiting_uncarried)

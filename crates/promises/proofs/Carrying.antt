@@ -1,6 +1,6 @@
 -- From batch to batch: a program that is carried stands in the next image, in a smaller place. Assumes nothing.
 use Prim.Native.Nat.{ℕ, zero, suc, ◌+◌, ◌≤◌, ◌<◌}
-use mathlib.Core.Path.{◌≡◌, ◌∙◌}
+use mathlib.Core.Path.{◌≡◌}
 use mathlib.Core.Logic.{◌⊎◌, inl, inr}
 use mathlib.Core.Bool.{Bool, true, false, not}
 use mathlib.Core.List.{List}
@@ -8,9 +8,8 @@ use native.Mathlib.Omega.{arith}
 use lib.ListN.{length}
 use borrow.Author.Tests.{eqb-true}
 use Rattle.base.specs.Words.{count}
-use Rattle.base.proofs.Bools.{known, clash}
+use Rattle.base.proofs.Bools.{known}
 use Rattle.base.proofs.Counts.{count_below, count_misses}
-use Rattle.base.proofs.Numbers.{zero_or, below}
 use Rattle.image.specs.Image.{count_of, part_of}
 use Rattle.slot.specs.declared.Group.TheVariants.{Carried}
 use Rattle.slot.specs.States.{carried, is_done, is_carried, is_in}
@@ -25,14 +24,6 @@ use Rattle.promises.proofs.AtEnd.{paper_ends, end_sized, end_done, end_zero}
 abbrev carried_in : (ℕ → World) → ℕ → ℕ → Bool
 carried_in worlds i q = in_group Carried (length (worlds i).table) (worlds i).area q
 
--- what holds below i and at i holds below i + 1
-one_more : (P : ℕ → Type 0) (i : ℕ) → ((j : ℕ) → j < i → P j) → P i → (j : ℕ) → j < suc i → P j
-one_more P i h k j l = go (below j i l)
-  where
-    go : (j ≡ i) ⊎ (j < i) → P j
-    go (inl q) = rw q k
-    go (inr q) = h j q
-
 module _ {last : ℕ} {images tables guards : ℕ → List ℕ} {worlds : ℕ → World} (batches : Batches last images tables guards worlds) where
   zero_stays : (i : ℕ) → i ≤ last → carried_in worlds i 0 ≡ false
   zero_stays i h = let end = paper_ends (batches.ends i h) in rw (end_sized end) (end_zero end)
@@ -43,21 +34,19 @@ module _ {last : ℕ} {images tables guards : ℕ → List ℕ} {worlds : ℕ �
   -- its next place is behind the carried ones before it, of which program 0 is none
   module _ (i q : ℕ) (l : q < count_of (images i)) (e : carried_in worlds i q ≡ true) where
     next_smaller : i ≤ last → count (carried_in worlds i) q < q
-    next_smaller h = go (zero_or q)
-      where
-        go : (q ≡ 0) ⊎ ((k : ℕ) × (q ≡ suc k)) → count (carried_in worlds i) q < q
-        go (inl z) = clash e (rw z (zero_stays i h))
-        go (inr z) = count_misses (carried_in worlds i) q 0 (omega (arith, z.1)) (zero_stays i h)
+    next_smaller h = grind (arith, zero_stays i h, count_misses (carried_in worlds i) q 0)
 
     next_stands : i < last → count (carried_in worlds i) q < count_of (images (suc i))
     unfolding carried_count
     next_stands h =
-        rw (batches.follows i h, next_count (images i) (worlds i).table (guards i) (worlds i).area (batches.fresh i) (batches.out i) (batches.accepted i h))
+        let many = next_count (images i) (worlds i).table (guards i) (worlds i).area (batches.fresh i) (batches.out i) (batches.accepted i h) in
+        rw (batches.follows i h, many)
         (let m = count_below (carried_in worlds i) (count_of (images i)) q l e in omega arith)
 
     next_same : i < last → part_of (images (suc i)) (count (carried_in worlds i) q) ≡ part_of (images i) q
     next_same h =
-        rw (batches.follows i h) (next_carried_at (images i) (worlds i).table (guards i) (worlds i).area (batches.fresh i) (batches.out i) (batches.accepted i h) q l e)
+        rw (batches.follows i h)
+        (next_carried_at (images i) (worlds i).table (guards i) (worlds i).area (batches.fresh i) (batches.out i) (batches.accepted i h) q l e)
 
 -- ---- the program that stood in place p of batch 0, with p + 1 batches
 
@@ -88,12 +77,9 @@ module _ {p : ℕ} {images tables guards : ℕ → List ℕ} {worlds : ℕ → W
       let before : i < p = omega (arith, c.nearer) in
       record {
         nearer = omega (arith, c.nearer);
-        carried_so_far = one_more (λ j. state_in worlds j (place_of worlds p j) ≡ carried) i c.carried_so_far (eqb-true _ _ e);
-        stands_so_far = λ j h.
-            one_more (λ j. place_of worlds p j < count_of (images j)) (suc i) (λ j k. c.stands_so_far j (omega arith)) (next_stands batches i q l e before) j (omega arith);
-        same_so_far = λ j h.
-            one_more (λ j. part_of (images j) (place_of worlds p j) ≡ part_of (images 0) p) (suc i) (λ j k. c.same_so_far j (omega arith))
-            (next_same batches i q l e before ∙ c.same_so_far i (omega arith)) j (omega arith);
+        carried_so_far = λ j h. grind (arith, eqb-true, c.carried_so_far j);
+        stands_so_far = λ j h. grind (arith, c.stands_so_far j, next_stands batches i q l e before);
+        same_so_far = λ j h. grind (arith, c.same_so_far j, c.same_so_far i, next_same batches i q l e before);
       }
 
   ends_here : (i : ℕ) → Comes i → carried_in worlds i (place_of worlds p i) ≡ false → EndsWithin images worlds p
@@ -115,7 +101,9 @@ module _ {p : ℕ} {images tables guards : ℕ → List ℕ} {worlds : ℕ → W
     where
       go : (carried_in worlds i (place_of worlds p i) ≡ true) ⊎ (carried_in worlds i (place_of worlds p i) ≡ false)
           → (place_of worlds p (suc i) < m → Comes (suc i) → EndsWithin images worlds p) → EndsWithin images worlds p
-      go (inl e) ih = ih (omega (arith, next_smaller batches i (place_of worlds p i) (c.stands_so_far i (omega arith)) e (omega (arith, c.nearer)))) (comes_on i c e)
+      go (inl e) ih =
+          let smaller = next_smaller batches i (place_of worlds p i) (c.stands_so_far i (omega arith)) e (omega (arith, c.nearer)) in
+          ih (omega (arith, smaller)) (comes_on i c e)
       go (inr e) ih = ends_here i c e
 
   pub ends_within : p < count_of (images 0) → EndsWithin images worlds p

@@ -5,6 +5,7 @@ use mathlib.Core.Path.{◌≡◌, refl}
 use mathlib.Core.List.{List, [], ◌∷◌, map}
 use native.Mathlib.Omega.{arith}
 use lib.ListN.{length, replicate}
+use Rattle.image.specs.Refusals.{passed}
 use Rattle.image.specs.Image.{count_of}
 use Rattle.image.specs.Assembler.{image}
 use Rattle.image.specs.Bench.{x}
@@ -80,7 +81,7 @@ run_to_end (suc (suc (suc i))) h = absurd (omega arith)
 abbrev room : List ℕ
 room = replicate 100 0
 
-accepted : (i : ℕ) → i < 2 → (next_refusal (images i) (worlds i).table (guards i) (worlds i).area nothing_fresh room).number ≡ 0
+accepted : (i : ℕ) → i < 2 → next_refusal (images i) (worlds i).table (guards i) (worlds i).area nothing_fresh room ≡ passed
 unfolding opened carry.opened each_of pass
 accepted zero h = refl
 accepted (suc zero) h = refl

@@ -1,5 +1,5 @@
--- The cause that marks and slot show, at the end of a batch, is that of the programs' runs: each mark is 1 + the smallest program whose run has the cell.
--- Assumes nothing.
+-- The cause that marks and slot show, at the end of a batch, is that of the programs' runs: each mark is 1 + the smallest program whose run has the
+-- cell. Assumes nothing.
 use Prim.Native.Nat.{ℕ, ◌+◌, ◌-◌, ◌≤◌, ◌<◌}
 use mathlib.Core.Path.{◌≡◌, refl, sym, ap, ◌∙◌}
 use mathlib.Core.Bool.{Bool, true}
@@ -10,10 +10,8 @@ use Rattle.base.specs.Words.{first, has}
 use Rattle.base.proofs.Members.{has_none}
 use Rattle.base.proofs.Numbers.{first_some, first_is}
 use Rattle.slot.specs.declared.ListKind.{ListKind}
-use Rattle.slot.specs.declared.ListKind.TheVariants.{Reads, Stores}
 use Rattle.slot.specs.Log.{Log, cells_of}
 use Rattle.machine.specs.declared.Run.{Run}
-use Rattle.machine.specs.declared.Run.TheVariants.{Finished, Rejected, Faulted}
 use Rattle.machine.specs.Runs.{keeps, kept}
 use Rattle.area.specs.declared.MarkKind.{MarkKind}
 use Rattle.area.specs.Layout.{marks_at, list_of}
@@ -29,11 +27,7 @@ use Rattle.promises.proofs.Views.{Fitting, mark_on_lem}
 
 -- a run that has a cell in a set has finished
 set_finished : (q : ListKind) (c : ℕ) (r : Run) (l : Log) → has c (cells_of q (kept r l)) ≡ true → keeps r ≡ true
-set_finished q c Finished l h = refl
-set_finished Reads c (Rejected code) l h = absurd (has_none c h)
-set_finished Stores c (Rejected code) l h = absurd (has_none c h)
-set_finished Reads c (Faulted kind at) l h = absurd (has_none c h)
-set_finished Stores c (Faulted kind at) l h = absurd (has_none c h)
+set_finished q c r l h = grind (arith, has_none c)
 
 module _ (b : Batch) (T k : ℕ) (fits : Fitting b T) (l : k < b.programs) (q : ListKind) (m : MarkKind) where
   abbrev area : List ℕ
@@ -56,11 +50,11 @@ module _ (b : Batch) (T k : ℕ) (fits : Fitting b T) (l : k < b.programs) (q : 
   -- an earlier run that has a cell of k's own is named by its mark
   shown : (c j : ℕ) → j < k → has c (cells_of q (sets b k)) ≡ true → theirs c j ≡ true → lowest q m T k area ≤ c
   unfolding Fitting
-  shown c j h own-has it =
-      let low : c < T = (fits k l).inside q c own-has in
+  shown c j h own_has it =
+      let low : c < T = (fits k l).inside q c own_has in
       let s = first_some (theirs c) b.programs j (omega arith) it in
       let e = mark_is c low in
-      lowest_low q m T k area c low (own c ∙ own-has) (is_earlier (mark c) k (omega (arith, s.0)) (omega (arith, s.1)))
+      lowest_low q m T k area c low (own c ∙ own_has) (is_earlier (mark c) k (omega (arith, s.0)) (omega (arith, s.1)))
 
   module _ (found : lowest q m T k area < T) where
     abbrev cell : ℕ

@@ -1,25 +1,22 @@
--- Before whom a program comes (document 02, ask 3, and what the listed order makes of it): the answer is true of the programs' own runs, and in the listed
--- order the program does not stand behind the one that it names. Assumes nothing.
+-- Before whom a program comes (document 02, ask 3, and what the listed order makes of it): the answer is true of the programs' own runs, and in the
+-- listed order the program does not stand behind the one that it names. Assumes nothing.
 use Prim.Native.Nat.{ℕ, ◌<◌}
 use mathlib.Core.Path.{◌≡◌, refl, sym, ◌∙◌}
-use mathlib.Core.Logic.{◌⊎◌, inl, inr}
-use mathlib.Core.Bool.{Bool, true, false, cond}
+use mathlib.Core.Bool.{Bool, true, false}
 use mathlib.Core.List.{List, [], ◌∷◌}
 use native.Mathlib.Omega.{arith}
-use lib.Dec.{eqb}
 use lib.ListN.{length}
 use borrow.Author.Tests.{eqb-true}
-use Rattle.base.specs.Words.{has, meets}
-use Rattle.base.proofs.Bools.{known, clash, not_true}
+use Rattle.std.specs.Prelude.{Ok, Err}
+use Rattle.base.specs.Words.{meets}
 use Rattle.base.proofs.Members.{meets_in}
 use Rattle.image.specs.Image.{count_of}
-use Rattle.image.proofs.Refusing.{number_of, unless_done}
+use Rattle.image.proofs.Refusing.{unless_done}
 use Rattle.slot.specs.declared.ListKind.TheVariants.{Reads}
 use Rattle.area.specs.declared.MarkKind.TheVariants.{Write}
 use Rattle.area.specs.Layout.{reads_of, stores_of}
 use Rattle.area.specs.Marks.{depends}
 use Rattle.causes.specs.declared.answers.Cause.{Cause}
-use Rattle.causes.specs.declared.answers.Before.TheVariants as before
 use Rattle.causes.specs.Why.{ask_refusal, before_of, before_answer}
 use Rattle.listing.specs.Order.{Ordered}
 use Rattle.listing.specs.Listing.{order_of}
@@ -35,11 +32,7 @@ use Rattle.promises.proofs.WhyCarried.{asks}
 behind_none : (reads stores : ℕ → List ℕ) (k p : ℕ) → meets (reads k) (stores p) ≡ true → (o : List ℕ) → Ordered reads stores o → behind k p o ≡ false
 unfolding behind
 behind_none reads stores k p m [] h = refl
-behind_none reads stores k p m (x ∷ o) h = go (known (eqb x p)) (behind_none reads stores k p m o h.1)
-  where
-    go : (eqb x p ≡ true) ⊎ (eqb x p ≡ false) → behind k p o ≡ false → cond (eqb x p) (has k o) (behind k p o) ≡ false
-    go (inl e) ih = rw e (not_true (λ there. clash m (rw (eqb-true x p e) at (h.0 k there))))
-    go (inr e) ih = rw e ih
+behind_none reads stores k p m (x ∷ o) h = grind (arith, eqb-true, behind_none reads stores k p m o, h.0 k)
 
 module _ (image t g : List ℕ) (w : World) (run : RunToEnd image t g w) (k : ℕ) (number : k < count_of image) where
   abbrev b : Batch
@@ -52,10 +45,11 @@ module _ (image t g : List ℕ) (w : World) (run : RunToEnd image t g w) (k : �
   pub before_true : TrueBefore b k (before_answer image w.table g w.area k)
   unfolding before_answer before_of
   before_true =
-      rw (unless_done (ask_refusal image w.table g w.area k) before.Refused (before_of (length w.table) k w.area) (number_of (sym (asks image t g w run k number))), end_sized end)
+      let answer = Ok (before_of (length w.table) k w.area) in
+      rw (unless_done (ask_refusal image w.table g w.area k) Err answer (sym (asks image t g w run k number)), end_sized end)
       (go (depends Reads Write (length t) k w.area) refl)
     where
-      go : (d : Bool) → depends Reads Write (length t) k w.area ≡ d → TrueBefore b k (before_of (length t) k w.area)
+      go : (d : Bool) → depends Reads Write (length t) k w.area ≡ d → TrueBefore b k (Ok (before_of (length t) k w.area))
       go true e = rw e (end.causes k number Reads Write e)
       go false e = rw e (sym (end.depends_is k number Reads Write) ∙ e)
 

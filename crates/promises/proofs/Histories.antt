@@ -1,11 +1,12 @@
--- Demand 2 and the first half of demand 3, both "with the same guards" (document 02, ask 5), and that only the rules act on the way: what any history of
--- the calls leaves. Assumes nothing.
+-- Demand 2 and the first half of demand 3, both "with the same guards" (document 02, ask 5), and that only the rules act on the way: what any history
+-- of the calls leaves. Assumes nothing.
 use mathlib.Core.Path.{◌≡◌, refl, sym, ap, ◌∙◌}
 use mathlib.Core.Bool.{true, false}
 use mathlib.Core.List.{List, ◌++◌, map}
 use Prim.Native.Nat.{ℕ, ◌<◌}
 use lib.ListN.{length, replicate}
 use Rattle.base.specs.Words.{words, tabulate, has}
+use Rattle.image.specs.Refusals.{passed}
 use Rattle.image.specs.Image.{count_of, refusal_of}
 use Rattle.slot.specs.Layout.{slot_words}
 use Rattle.slot.specs.declared.ListKind.TheVariants.{Reads, Stores}
@@ -24,7 +25,8 @@ use Rattle.promises.proofs.Installing.{table_opening}
 use Rattle.promises.proofs.SlotLaws.{state_by, detail_by, log_by}
 use Rattle.promises.proofs.Views.{Fitting, marks_on, slot_on_lem, gathered_on, log_on, state_on, detail_on, list_on, values_on}
 use Rattle.promises.proofs.Stepping.{opens, Phased, runs_fit, call_on}
-use Rattle.promises.proofs.Progress.{Progress, none_yet, moved_by, moved_append, gathered_keeps, gathers_gathered, settles_settled, gathers_each, settles_each}
+use Rattle.promises.proofs.Progress.{Progress, none_yet, moved_by, moved_append}
+use Rattle.promises.proofs.Progress.{gathered_keeps, gathers_gathered, settles_settled, gathers_each, settles_each}
 use Rattle.promises.proofs.Playing.{reached, reached_phased, world_reached}
 use Rattle.promises.proofs.Endings.{says_itself, over_is, over_paper, settled_gathered}
 
@@ -51,7 +53,7 @@ pub paper_table : (image t g : List ℕ) → (paper_world image t g).table ≡ t
 unfolding table_on table_after
 paper_table image t g = refl
 
-module _ (image t g : List ℕ) (accepted : (refusal_of image).number ≡ 0) (k : ℕ) (number : k < count_of image) where
+module _ (image t g : List ℕ) (accepted : refusal_of image ≡ passed) (k : ℕ) (number : k < count_of image) where
   pub paper_state : state_of (length t) k (paper_world image t g).area ≡ state_after (batch_of image t g) k
   unfolding state_by
   paper_state = state_on (batch_of image t g) all all (length t) (runs_fit image t g accepted) k number
@@ -76,7 +78,7 @@ module _ (image t g : List ℕ) (accepted : (refusal_of image).number ≡ 0) (k 
 
 -- Every history in which each program's gathering stands somewhere, and later each gathered program's settling, has ended, whatever refused, repeated
 -- or out-of-range steps stand in between.
-pub whole_ends : (image t g found : List ℕ) → (open_refusal image t g found).number ≡ 0 → (first second : List Step) → Whole image t g first second
+pub whole_ends : (image t g found : List ℕ) → open_refusal image t g found ≡ passed → (first second : List Step) → Whole image t g first second
     → is_over image (world_after image t g found (first ++ second)) ≡ true
 whole_ends image t g found e first second whole =
     let n : ℕ = count_of image in
@@ -87,7 +89,7 @@ whole_ends image t g found e first second whole =
     (λ k l. (gathered_keeps n k second p (gathered k l), λ f. settles_settled n k second p gathered (whole.all_settled k l f))))
 
 -- so it is a batch run to its end
-pub whole_run : (image t g found : List ℕ) → (open_refusal image t g found).number ≡ 0 → (first second : List Step) → Whole image t g first second
+pub whole_run : (image t g found : List ℕ) → open_refusal image t g found ≡ passed → (first second : List Step) → Whole image t g first second
     → RunToEnd image t g (world_after image t g found (first ++ second))
 whole_run image t g found e first second whole =
     record { found = found; history = first ++ second; opens = e; plays = refl; over = whole_ends image t g found e first second whole }
@@ -99,10 +101,10 @@ pub orders_whole : (image t g gathering settling : List ℕ) → ((k : ℕ) → 
 orders_whole image t g gathering settling each s =
     record { all_gathered = λ k l. gathers_each k gathering ∙ each k l; all_settled = λ k l f. settles_each k settling ∙ s k l f }
 
--- Demand 3: "Open a batch, gather every program once, then settle every gathered program once, in any two orders, refused steps between them included,
--- with nobody else changing image, table or work area. The end table, work area and listed order come out the same for all such orders." They are the
--- paper's, in whatever area each was opened.
-pub any_two_orders : (image t g found found' : List ℕ) → (open_refusal image t g found).number ≡ 0 → (open_refusal image t g found').number ≡ 0
+-- Demand 3: "Open a batch, gather every program once, then settle every gathered program once, in any two orders, refused steps between them
+-- included, with nobody else changing image, table or work area. The end table, work area and listed order come out the same for all such orders."
+-- They are the paper's, in whatever area each was opened.
+pub any_two_orders : (image t g found found' : List ℕ) → open_refusal image t g found ≡ passed → open_refusal image t g found' ≡ passed
     → (first second first' second' : List Step) → Whole image t g first second → Whole image t g first' second'
     → (v w : World) → v ≡ world_after image t g found (first ++ second) → w ≡ world_after image t g found' (first' ++ second')
     → (v ≡ paper_world image t g) × (w ≡ v) × (order_of (length t) (count_of image) w.area ≡ order_of (length t) (count_of image) v.area)
@@ -116,7 +118,7 @@ any_two_orders image t g found found' e e' first second first' second' whole who
 -- ---- Only by the rules on the way
 
 -- A batch opened on the table t in whatever area was found, any history of it, ended or not, and the world that it leaves.
-module _ (image t g found : List ℕ) (opened : (open_refusal image t g found).number ≡ 0) (history : List Step) (w : World)
+module _ (image t g found : List ℕ) (opened : open_refusal image t g found ≡ passed) (history : List Step) (w : World)
     (plays : w ≡ world_after image t g found history) where
   abbrev p : Progress
   p = reached image history
@@ -135,9 +137,9 @@ module _ (image t g found : List ℕ) (opened : (open_refusal image t g found).n
       ∙ ap (λ (x : World). world_on image t g (gathered_in (length t) x.area) (settled_in (length t) x.area)) (sym is))
 
   -- After any history, ended or not, the area passes check 7.
-  pub checked_on_the_way : (call_refusal image w.table g w.area).number ≡ 0
+  pub checked_on_the_way : call_refusal image w.table g w.area ≡ passed
   checked_on_the_way =
-      ap (λ (x : World). (call_refusal image x.table g x.area).number) is ∙ call_on image t g (opens image t g found opened) p.gathered p.settled
+      ap (λ (x : World). call_refusal image x.table g x.area) is ∙ call_on image t g (opens image t g found opened) p.gathered p.settled
 
   -- Each gathered slot holds its program's run from the opening table: its reads, stores and values are those of that run,
   pub log_on_the_way : (k : ℕ) → k < count_of image → gathered_in (length t) w.area k ≡ true

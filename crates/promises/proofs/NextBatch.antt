@@ -4,6 +4,7 @@ use mathlib.Core.Path.{◌≡◌, ◌∙◌}
 use mathlib.Core.Bool.{not, ◌&&◌}
 use mathlib.Core.List.{List, ◌++◌}
 use lib.ListN.{length}
+use Rattle.image.specs.Refusals.{passed}
 use Rattle.image.specs.Image.{count_of, rule_byte, refusal_of}
 use Rattle.slot.specs.declared.Group.TheVariants.{Carried}
 use Rattle.area.specs.Layout.{in_group}
@@ -16,9 +17,9 @@ use Rattle.promises.specs.History.{RunToEnd}
 use Rattle.promises.proofs.AtEnd.{carried_is, paper_ends, end_carried}
 
 -- Where the call is not refused, its output is a good image with the fresh rule byte, and its programs are the carried ones and then the fresh ones.
-pub next_holds : (image t g a fresh out : List ℕ) → (next_refusal image t g a fresh out).number ≡ 0
+pub next_holds : (image t g a fresh out : List ℕ) → next_refusal image t g a fresh out ≡ passed
     → (let next = next_image (length t) image a fresh in
-    ((refusal_of next).number ≡ 0) × (rule_byte next ≡ rule_byte fresh) × (all_of next ≡ carried_of (length t) image a ++ all_of fresh))
+    (refusal_of next ≡ passed) × (rule_byte next ≡ rule_byte fresh) × (all_of next ≡ carried_of (length t) image a ++ all_of fresh))
 unfolding next_programs
 next_holds image t g a fresh out e =
     (next_good image t g a fresh out e, next_rule image t g a fresh out e, next_programs_lem image t g a fresh out e)

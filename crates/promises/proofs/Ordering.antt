@@ -8,8 +8,9 @@ use lib.Dec.{ltb}
 use lib.ListN.{length}
 use borrow.Author.Tests.{le-leb}
 use Rattle.base.specs.Words.{has, distinct}
+use Rattle.image.specs.Refusals.{passed}
 use Rattle.image.specs.Image.{count_of, second_rule}
-use Rattle.image.proofs.Refusing.{goes_on, first_passes, number_of}
+use Rattle.image.proofs.Refusing.{goes_on, first_passes}
 use Rattle.slot.specs.declared.Group.TheVariants.{Committed}
 use Rattle.area.specs.Layout.{in_group}
 use Rattle.area.specs.Checks.{ended_refusal}
@@ -31,13 +32,13 @@ list_names image t g w run = (end_distinct (paper_ends run), end_members (paper_
 
 -- 12, "no order exists (never for an area that these calls made on this image)": any list with room for n entries gets the order.
 pub order_exists_lem : (image t g : List ℕ) (w : World) → RunToEnd image t g w → (list : List ℕ) → count_of image ≤ length list
-    → (order_refusal image w.table g w.area list).number ≡ 0
+    → order_refusal image w.table g w.area list ≡ passed
 unfolding order_refusal list_refusal ended_refusal is_over
 order_exists_lem image t g w run list room =
     let end = paper_ends run in
     let ended = first_passes refl (checked_is image w.table g w.area end.checks end.pairs) (goes_on _ run.over refl) in
-    let listed = first_passes refl (number_of (sym ended)) (goes_on _ (le-leb _ _ room) refl) in
-    number_of (sym (first_passes refl (number_of (sym listed)) (goes_on _ (rw (end_sized end) (end_exists end)) refl)))
+    let listed = first_passes refl (sym ended) (goes_on _ (le-leb _ _ room) refl) in
+    sym (first_passes refl (sym listed) (goes_on _ (rw (end_sized end) (end_exists end)) refl))
 
 -- "Under Rule 1, for an area that these calls made on this image, this is rising number order, which is proved."
 pub order_rises : (image t g : List ℕ) (w : World) → RunToEnd image t g w → second_rule image ≡ false

@@ -1,44 +1,35 @@
 -- The listed order of the paper's batch, with no area in sight: it names each committed program once and nobody else, and under Rule 1 it rises.
 -- Assumes nothing.
-use Prim.Native.Nat.{ℕ, ◌+◌, ◌-◌, ◌<◌}
-use mathlib.Core.Path.{◌≡◌, refl}
-use mathlib.Core.Logic.{◌⊎◌, inl, inr}
-use mathlib.Core.Bool.{Bool, true, false, cond, ◌&&◌}
+use Prim.Native.Nat.{ℕ, ◌+◌, ◌-◌}
+use mathlib.Core.Path.{◌≡◌}
+use mathlib.Core.Bool.{true, false, cond, ◌&&◌}
 use mathlib.Core.List.{List}
 use native.Mathlib.Omega.{arith}
 use lib.Dec.{ltb}
 use lib.ListN.{length}
 use borrow.Author.Tests.{ltb-true, lt-ltb}
-use Rattle.base.specs.Words.{count, has, distinct, meets}
-use Rattle.base.proofs.Bools.{clash, and_both, both_and, same_test}
+use Rattle.base.specs.Words.{count, has, distinct}
+use Rattle.base.proofs.Bools.{and_both, both_and, same_test}
 use Rattle.base.proofs.Counts.{count_le}
 use Rattle.listing.specs.Order.{Ordered, listed, rising}
 use Rattle.listing.proofs.Whole.{listed_members, listed_distinct, listed_ordered, Ranked, listed_whole, length_listed}
 use Rattle.listing.proofs.Rising.{listed_rising}
-use Rattle.promises.specs.Paper.{Batch, read_set, write_set, raw, war, commits}
+use Rattle.promises.specs.Paper.{Batch, read_set, write_set, raw, commits}
 use Rattle.promises.proofs.Conflicts.{commits_not_both, rule1_no_raw, no_raw_upward, no_war_downward}
 
 unfoldable pub paper_order : Batch → List ℕ
 paper_order b = listed b.programs b.programs (λ k. read_set b k) (λ k. write_set b k) (commits b)
 
--- Those with RAW come first, the largest number first, then the others by number: one without RAW reads nothing that an earlier one stores, one without
--- WAR stores nothing that an earlier one reads, and each that commits is without one of them.
+-- Those with RAW come first, the largest number first, then the others by number: one without RAW reads nothing that an earlier one stores, one
+-- without WAR stores nothing that an earlier one reads, and each that commits is without one of them.
 rank : Batch → ℕ → ℕ
 rank b k = cond (raw b k) (b.programs - k) (b.programs + k)
 
 module _ (b : Batch) where
   ranked : Ranked b.programs (λ k. read_set b k) (λ k. write_set b k) (commits b) (rank b)
   unfolding rank
-  ranked = record { falls = λ i j li lj ei ej ne h. go i j li lj ne h (raw b i) (raw b j) refl refl (commits_not_both b i ei) }
-    where
-      go : (i j : ℕ) → i < b.programs → j < b.programs → (j ≡ i → ⊥) → meets (read_set b j) (write_set b i) ≡ true
-          → (p q : Bool) → raw b i ≡ p → raw b j ≡ q → (raw b i ≡ false) ⊎ (war b i ≡ false)
-          → cond q (b.programs - j) (b.programs + j) < cond p (b.programs - i) (b.programs + i)
-      go i j li lj ne h true q ei ej (inl z) = clash ei z
-      go i j li lj ne h true true ei ej (inr z) = let t = no_war_downward b i j z h in omega arith
-      go i j li lj ne h true false ei ej (inr z) = let t = no_war_downward b i j z h in let u = no_raw_upward b i j ej h in absurd (ne (omega arith))
-      go i j li lj ne h false true ei ej z = omega arith
-      go i j li lj ne h false false ei ej z = let u = no_raw_upward b i j ej h in omega arith
+  ranked =
+      record { falls = λ i j li lj ei ej ne h. grind (arith, commits_not_both b i ei, no_war_downward b i j, no_raw_upward b i j) }
 
   pub order_members : (k : ℕ) → has k (paper_order b) ≡ ltb k b.programs && commits b k
   unfolding paper_order

@@ -7,6 +7,7 @@ use lib.ListN.{length, replicate, length-replicate, get_or-replicate, replicate-
 use Rattle.base.specs.Words.{tabulate}
 use Rattle.base.proofs.Numbers.{none_first}
 use Rattle.base.proofs.Tables.{tabulate_is}
+use Rattle.image.specs.Refusals.{passed}
 use Rattle.image.specs.Image.{count_of}
 use Rattle.slot.specs.Layout.{slot_words}
 use Rattle.image.proofs.Refusing.{unless_done}
@@ -48,7 +49,7 @@ module _ (b : Batch) where
       (ap (λ (x : List ℕ). replicate T 0 ++ x) (replicate-append-replicate T (slot_words * b.programs) 0)
       ∙ replicate-append-replicate T (T + slot_words * b.programs) 0)
 
-pub opened_on : (image t g found : List ℕ) → (open_refusal image t g found).number ≡ 0 → opening image t g found ≡ world_on image t g nobody nobody
+pub opened_on : (image t g found : List ℕ) → open_refusal image t g found ≡ passed → opening image t g found ≡ world_on image t g nobody nobody
 unfolding opening open_area
 opened_on image t g found e =
     rw (
@@ -86,7 +87,7 @@ reached image h = moved_by (count_of image) h none_yet
 pub reached_phased : (image : List ℕ) (h : List Step) → Phased (count_of image) (reached image h).gathered (reached image h).settled
 reached_phased image h = phased_by (count_of image) h none_yet (none_phased (count_of image))
 
-pub world_reached : (image t g found : List ℕ) → (open_refusal image t g found).number ≡ 0 → (h : List Step)
+pub world_reached : (image t g found : List ℕ) → open_refusal image t g found ≡ passed → (h : List Step)
     → world_after image t g found h ≡ world_at image t g (reached image h)
 world_reached image t g found e h =
     rw (opened_on image t g found e) (played_on image t g (opens image t g found e) h none_yet (none_phased (count_of image)))

@@ -1,13 +1,12 @@
 -- How far a batch has come: who is gathered and who is settled, and what a history makes of the two sets. Assumes nothing.
 use mathlib.Core.Path.{◌≡◌, refl, ap}
-use mathlib.Core.Logic.{◌⊎◌, inl, inr}
-use mathlib.Core.Bool.{Bool, true, false, cond, ◌||◌}
+use mathlib.Core.Bool.{Bool, true, cond, ◌||◌}
 use mathlib.Core.List.{List, [], ◌∷◌, ◌++◌, map}
 use Prim.Native.Nat.{ℕ, ◌<◌}
+use native.Mathlib.Omega.{arith}
 use lib.Dec.{eqb}
 use borrow.Author.Tests.{eqb-true}
 use Rattle.base.specs.Words.{every, has}
-use Rattle.base.proofs.Bools.{known, clash, not_true, or_cases}
 use Rattle.base.proofs.Numbers.{every_at, every_from}
 use Rattle.promises.specs.History.{Step, gather, settle, gathers, settles}
 use Rattle.promises.proofs.Sets.{nobody, also, also_own, also_keeps}
@@ -41,13 +40,9 @@ module _ (n : ℕ) where
   none_phased j k l m h = refl
 
   moved_phased : (s : Step) (p : Progress) → Phased n p.gathered p.settled → Phased n (moved n s p).gathered (moved n s p).settled
-  unfolding Phased
-  moved_phased (gather i) p h j k l m e = h j k l m (not_true (λ g. clash (also_keeps i p.gathered j g) e))
-  moved_phased (settle i) p h j k l m e = go (known (every n p.gathered))
-    where
-      go : (every n p.gathered ≡ true) ⊎ (every n p.gathered ≡ false) → cond (every n p.gathered) (also i p.settled) p.settled k ≡ false
-      go (inl a) = clash (every_at n p.gathered a j l) e
-      go (inr a) = rw a (h j k l m e)
+  unfolding Phased also
+  moved_phased (gather i) p h j k l m e = grind (arith, h j k l m)
+  moved_phased (settle i) p h j k l m e = grind (arith, h j k l m, every_at n p.gathered)
 
   pub phased_by : (h : List Step) (p : Progress) → Phased n p.gathered p.settled → Phased n (moved_by n h p).gathered (moved_by n h p).settled
   phased_by [] p f = f
@@ -66,11 +61,7 @@ module _ (n : ℕ) where
 
     settled_stays : (s : Step) (p : Progress) → p.settled k ≡ true → (moved n s p).settled k ≡ true
     settled_stays (gather j) p g = g
-    settled_stays (settle j) p g = go (every n p.gathered)
-      where
-        go : (c : Bool) → cond c (also j p.settled) p.settled k ≡ true
-        go true = also_keeps j p.settled k g
-        go false = g
+    settled_stays (settle j) p g = grind (arith, also_keeps j p.settled k g)
 
     settled_keeps : (h : List Step) (p : Progress) → p.settled k ≡ true → (moved_by n h p).settled k ≡ true
     settled_keeps [] p g = g
@@ -80,29 +71,21 @@ module _ (n : ℕ) where
 
     pub gathers_gathered : (h : List Step) (p : Progress) → gathers k h ≡ true → (moved_by n h p).gathered k ≡ true
     unfolding gathers
-    gathers_gathered [] p e = clash e refl
+    gathers_gathered [] p e = absurd (cc)
     gathers_gathered (settle j ∷ h) p e = gathers_gathered h (moved n (settle j) p) e
-    gathers_gathered (gather j ∷ h) p e = go (or_cases (eqb k j) (gathers k h) e) (gathers_gathered h (moved n (gather j) p))
-      where
-        go : (eqb k j ≡ true) ⊎ (gathers k h ≡ true) → (gathers k h ≡ true → (moved_by n h (moved n (gather j) p)).gathered k ≡ true)
-            → (moved_by n h (moved n (gather j) p)).gathered k ≡ true
-        go (inl q) ih = gathered_keeps h (moved n (gather j) p) (rw (eqb-true k j q) (also_own j p.gathered))
-        go (inr q) ih = ih q
+    gathers_gathered (gather j ∷ h) p e =
+        grind (arith, eqb-true, also_own k p.gathered, gathered_keeps h (moved n (gather j) p), gathers_gathered h (moved n (gather j) p))
 
     -- whose settling stands in a history that begins when everybody is gathered is settled
     pub settles_settled : (h : List Step) (p : Progress) → ((j : ℕ) → j < n → p.gathered j ≡ true) → settles k h ≡ true
         → (moved_by n h p).settled k ≡ true
     unfolding settles
-    settles_settled [] p all e = clash e refl
+    settles_settled [] p all e = absurd (cc)
     settles_settled (gather j ∷ h) p all e = settles_settled h (moved n (gather j) p) (λ i l. also_keeps j p.gathered i (all i l)) e
-    settles_settled (settle j ∷ h) p all e = go (or_cases (eqb k j) (settles k h) e) (settles_settled h (moved n (settle j) p) all)
-      where
-        go : (eqb k j ≡ true) ⊎ (settles k h ≡ true) → (settles k h ≡ true → (moved_by n h (moved n (settle j) p)).settled k ≡ true)
-            → (moved_by n h (moved n (settle j) p)).settled k ≡ true
-        go (inl q) ih =
-            settled_keeps h (moved n (settle j) p)
-            (rw (every_from n p.gathered all, eqb-true k j q) (also_own j p.settled))
-        go (inr q) ih = ih q
+    settles_settled (settle j ∷ h) p all e =
+        let everybody = every_from n p.gathered all in
+        let then = moved n (settle j) p in
+        grind (arith, eqb-true, also_own k p.settled, settled_keeps h then, settles_settled h then all)
 
 -- ---- the steps of each program of a list
 

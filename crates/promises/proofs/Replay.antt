@@ -1,21 +1,20 @@
--- The serial run, with no area in sight: in an order where none reads what one before it stores, every program still finds the opening values where it
--- reads, so it runs as it did; and the tables agree because two committed programs never store one cell. Assumes nothing.
+-- The serial run, with no area in sight: in an order where none reads what one before it stores, every program still finds the opening values where
+-- it reads, so it runs as it did; and the tables agree because two committed programs never store one cell. Assumes nothing.
 use Prim.Native.Nat.{ℕ, ◌<◌}
 use mathlib.Core.Path.{◌≡◌, refl, sym, ◌∙◌, ap}
-use mathlib.Core.Logic.{◌⊎◌, inl, inr}
-use mathlib.Core.Bool.{Bool, true, false, not, ◌||◌, ◌&&◌}
+use mathlib.Core.Bool.{Bool, true, false, not, ◌||◌}
 use mathlib.Core.List.{List, [], ◌∷◌, map}
-use lib.Dec.{eqb, ltb}
+use native.Mathlib.Omega.{arith}
+use lib.Dec.{ltb}
 use lib.ListN.{length, get_or, set}
 use lib.Seq.{get_or-set_other}
-use borrow.Author.Tests.{eqb-false, ltb-true, lt-ltb}
+use borrow.Author.Tests.{eqb-true, ltb-true}
 use Rattle.base.specs.Words.{has, distinct}
-use Rattle.base.proofs.Bools.{clash, not_true, and_both, nots, or_false}
+use Rattle.base.proofs.Bools.{clash, not_true, and_both}
 use Rattle.base.proofs.Members.{has_head, has_tail, meets_in}
 use Rattle.image.specs.Image.{count_of, part_of}
 use Rattle.slot.specs.Log.{Log}
 use Rattle.machine.specs.declared.Run.{Run}
-use Rattle.machine.specs.declared.Run.TheVariants.{Finished, Rejected, Faulted}
 use Rattle.guard.specs.Guards.{admits}
 use Rattle.machine.specs.Runs.{Outcome, keeps, kept}
 use Rattle.machine.proofs.Laws.{reads_decide}
@@ -24,25 +23,21 @@ use Rattle.steps.specs.Gathering.{run_at}
 use Rattle.listing.specs.Order.{Ordered}
 use Rattle.promises.specs.Paper.{batch_of, read_set, write_set, new_values, commits, installed, table_after}
 use Rattle.promises.specs.Serial.{serial_table, serial_runs}
-use Rattle.promises.proofs.Sets.{nobody, also, also_cases}
+use Rattle.promises.proofs.Sets.{nobody, also}
 use Rattle.promises.proofs.Deciding.{commits_keeps, no_common}
 use Rattle.promises.proofs.Installing.{store_length, installed_none, installed_ext, installed_more}
 use Rattle.promises.proofs.PaperOrder.{paper_order, order_members, order_distinct, order_ordered}
 
 -- a run that keeps its log keeps all of it
 kept_all : (r : Run) (l : Log) → keeps r ≡ true → kept r l ≡ l
-kept_all Finished l e = refl
-kept_all (Rejected code) l e = clash e refl
-kept_all (Faulted kind at) l e = clash e refl
+kept_all r l e = grind arith
 
 -- a cell that is not among the stored ones keeps its value
 store_other : (cs vs t : List ℕ) (c : ℕ) → has c cs ≡ false → get_or (store_all cs vs t) c 0 ≡ get_or t c 0
 unfolding store_all has
 store_other [] vs t c e = refl
 store_other (x ∷ cs) [] t c e = refl
-store_other (x ∷ cs) (v ∷ vs) t c e =
-    let u = or_false (eqb c x) (has c cs) e in
-    store_other cs vs (set t x v) c u.1 ∙ get_or-set_other t x c v 0 (eqb-false c x u.0)
+store_other (x ∷ cs) (v ∷ vs) t c e = grind (arith, store_other cs vs (set t x v) c, get_or-set_other t x c v 0)
 
 module _ (image t g : List ℕ) where
   -- The programs of the list l commit, they are still to be run, in this order, and the table u has the opening values where they read.
@@ -58,14 +53,15 @@ module _ (image t g : List ℕ) where
       let e = kept_all o.answer o.log (commits_keeps (batch_of image t g) k (w.committing k (has_head k l))) in
       reads_decide (admits g) (part_of image k) t u w.sized (λ c h. w.opening k c (has_head k l) (ap (λ (m : Log). has c m.reads) e ∙ h))
 
-  to_run_next : (k : ℕ) (l u : List ℕ) → ToRun (k ∷ l) u → ToRun l (store_all (write_set (batch_of image t g) k) (new_values (batch_of image t g) k) u)
+  to_run_next : (k : ℕ) (l u : List ℕ) → ToRun (k ∷ l) u
+      → ToRun l (store_all (write_set (batch_of image t g) k) (new_values (batch_of image t g) k) u)
   to_run_next k l u w =
       let b = batch_of image t g in
       record {
         sized = w.sized ∙ sym (store_length (write_set b k) (new_values b k) u);
         opening = λ j c h r.
-            w.opening j c (has_tail j k l h) r
-            ∙ sym (store_other (write_set b k) (new_values b k) u c (not_true (λ s. clash (meets_in c (read_set b j) (write_set b k) r s) (w.ordered.0 j h))));
+            let kept = not_true (λ s. clash (meets_in c (read_set b j) (write_set b k) r s) (w.ordered.0 j h)) in
+            w.opening j c (has_tail j k l h) r ∙ sym (store_other (write_set b k) (new_values b k) u c kept);
         committing = λ j h. w.committing j (has_tail j k l h);
         ordered = w.ordered.1;
       }
@@ -102,17 +98,8 @@ module _ (image t g : List ℕ) where
       let more = installs_next done k (below k (has_head k l)) new (w.committing k (has_head k l)) (λ j e. (apart j e).0) in
       rw (same_run k l u w, more)
       (table_same test (also k done) l (rw more at (to_run_next k l u w)) once.1 (λ j h. below j (has_tail j k l h))
-      (λ j e. other j (nots (has k l) once.0) (also_cases k done j e))
-      (λ j h. shuffle (eqb j k) (has j l) (done j) ∙ all j h))
-    where
-      shuffle : (x y z : Bool) → y || (x || z) ≡ x || y || z
-      shuffle true true z = refl
-      shuffle true false z = refl
-      shuffle false y z = refl
-
-      other : (j : ℕ) → has k l ≡ false → (j ≡ k) ⊎ (done j ≡ true) → (commits (batch_of image t g) j ≡ true) × (has j l ≡ false)
-      other j n (inl q) = rw q (w.committing k (has_head k l), n)
-      other j n (inr e) = ((apart j e).0, (or_false (eqb j k) (has j l) (apart j e).1).1)
+      (λ j e. let c = w.committing k (has_head k l) in grind (arith, eqb-true, apart j))
+      (λ j h. grind (arith, all j h)))
 
   -- ---- all that commit, from the opening table
 
@@ -138,8 +125,4 @@ module _ (image t g : List ℕ) where
       rw start at (table_same (commits b) nobody l (rw start to_run_first) (order_distinct b)
       (λ k h. ltb-true _ _ (and_both (ltb k (count_of image)) (commits b k) (sym (order_members b k) ∙ h)).0)
       (λ k e. clash e refl)
-      (λ k h. no_more (has k l) ∙ order_members b k ∙ ap (λ (x : Bool). x && commits b k) (lt-ltb _ _ h)))
-    where
-      no_more : (x : Bool) → x || false ≡ x
-      no_more true = refl
-      no_more false = refl
+      (λ k h. grind (arith, order_members b k)))

@@ -16,7 +16,7 @@ use Rattle.area.specs.Layout.{marks_at, slot_at, list_of, values_of}
 use Rattle.area.specs.Marks.{list_for, depends}
 use Rattle.area.proofs.Views.{area_ext}
 use Rattle.steps.specs.declared.Settled.{Settled}
-use Rattle.steps.specs.Answers.{numbers_of_settled}
+use Rattle.steps.specs.Answers.{state_of_settled, detail_of_settled}
 use Rattle.steps.specs.Settling.{settled_area}
 use Rattle.steps.proofs.Views.{settled_length, settled_marks, settled_own, settled_other}
 use Rattle.promises.specs.Paper.{Batch, sets, new_values, touches, state_after, detail_after}
@@ -28,12 +28,12 @@ use Rattle.promises.proofs.Views.{Fitting, on_length, marks_on, slot_on_lem, mar
 
 -- ---- the area, after an answer that has the end's numbers
 
-module _ (b : Batch) (G S : ℕ → Bool) (T k : ℕ) (fits : Fitting b T) (l : k < b.programs) (isGathered : G k ≡ true) (unsettled : S k ≡ false)
-    (v : Settled) (state_is : (numbers_of_settled v).state ≡ state_after b k) (detail_is : (numbers_of_settled v).detail ≡ detail_after b k) where
-  own_slot : set (set (slot_on b G S k) state_word (numbers_of_settled v).state) detail_word (numbers_of_settled v).detail ≡ slot_on b G (also k S) k
+module _ (b : Batch) (G S : ℕ → Bool) (T k : ℕ) (fits : Fitting b T) (l : k < b.programs) (is_gathered : G k ≡ true) (unsettled : S k ≡ false)
+    (v : Settled) (state_is : state_of_settled v ≡ state_after b k) (detail_is : detail_of_settled v ≡ detail_after b k) where
+  own_slot : set (set (slot_on b G S k) state_word (state_of_settled v)) detail_word (detail_of_settled v) ≡ slot_on b G (also k S) k
   unfolding slot_on slot_of
   own_slot =
-      rw (state_is, detail_is, isGathered, unsettled, also_own k S)
+      rw (state_is, detail_is, is_gathered, unsettled, also_own k S)
       (layout_again (state_of_run (b.runs k).answer) (detail_of_run (b.runs k).answer) (sets b k) (state_after b k) (detail_after b k))
 
   made_slot : (j : ℕ) → j < b.programs → slot_at T j (settled_area v T k (area_on b G S T)) ≡ slot_on b G (also k S) j
@@ -43,7 +43,7 @@ module _ (b : Batch) (G S : ℕ → Bool) (T k : ℕ) (fits : Fitting b T) (l : 
       go (yes e) =
           rw e
           (settled_own v T k (area_on b G S T)
-          ∙ (ap (λ (x : List ℕ). set (set x state_word (numbers_of_settled v).state) detail_word (numbers_of_settled v).detail) (slot_on_lem b G S T fits k l)
+          ∙ (ap (λ (x : List ℕ). set (set x state_word (state_of_settled v)) detail_word (detail_of_settled v)) (slot_on_lem b G S T fits k l)
           ∙ own_slot))
       go (no e) =
           settled_other v T k (area_on b G S T) j e

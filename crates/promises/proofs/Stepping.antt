@@ -1,21 +1,18 @@
 -- Each call on a world on the way: gathering k leaves the world in which k is gathered too, settling k that in which k is settled too, once everybody
 -- is gathered. A refused call leaves the same world, and then the sets are the same too. Assumes nothing.
-use mathlib.Core.Path.{◌≡◌, refl, sym, ap, ◌∙◌}
-use mathlib.Core.Logic.{◌⊎◌, inl, inr}
+use mathlib.Core.Path.{◌≡◌, refl, ap, ◌∙◌}
 use mathlib.Core.Bool.{Bool, true, false, not, cond, ◌&&◌}
 use mathlib.Core.List.{List}
-use Prim.Native.Nat.{ℕ, suc, ◌≤◌, ◌<◌}
-use native.Mathlib.Decide.{ℕ_discrete}
+use Prim.Native.Nat.{ℕ, ◌≤◌, ◌<◌}
 use native.Mathlib.Omega.{arith}
 use lib.Dec.{eqb, ltb, leb}
 use lib.ListN.{length}
-use borrow.Author.Tests.{ltb-true, ltb-false, lt-ltb, le-leb, eq-eqb, ne_eqb}
+use borrow.Author.Tests.{eqb-true, ltb-true}
 use Rattle.base.specs.Words.{every}
-use Rattle.base.proofs.Bools.{known, clash, and_both, both_and, nots, not_false}
-use Rattle.base.proofs.Numbers.{zero_or, every_at, every_ext}
+use Rattle.base.proofs.Bools.{and_left}
+use Rattle.base.proofs.Numbers.{every_at, every_ext}
 use Rattle.image.specs.Limits.{max_cells}
-use Rattle.image.specs.Refusals as refusal
-use Rattle.image.specs.Refusals.{check, after, unless}
+use Rattle.image.specs.Refusals.{passed, check, after, unless}
 use Rattle.image.specs.Image.{count_of, part_of, refusal_of}
 use Rattle.image.proofs.Laws.{accepted, part_short}
 use Rattle.slot.specs.declared.ListKind.TheVariants.{Reads, Stores}
@@ -23,16 +20,14 @@ use Rattle.slot.specs.States.{waiting, gathered, has_run}
 use Rattle.machine.proofs.Laws.{run_kept}
 use Rattle.area.specs.declared.MarkKind.TheVariants.{Write, Read}
 use Rattle.area.specs.Layout.{state_of}
-use Rattle.area.specs.Marks.{store_all}
 use Rattle.guard.specs.Guards.{admits}
 use Rattle.area.specs.Checks.{call_refusal, open_refusal, states_from, Checked, Paired}
 use Rattle.area.proofs.Checks.{few, passed_good, checked_is, open_shows}
-use Rattle.steps.specs.declared.Settled.TheVariants.{Committed, Carried}
 use Rattle.steps.specs.Gathering.{step_refusal, waits, gather_refusal, gathered_area, gather_area}
 use Rattle.steps.specs.Settling.{is_ready, settle_refusal, verdict, settled_table, settled_area, settle_table, settle_area}
-use Rattle.promises.specs.Paper.{Batch, batch_of, write_set, new_values, gets_settled, commits, reason}
+use Rattle.promises.specs.Paper.{Batch, batch_of, gets_settled}
 use Rattle.promises.specs.Laid.{area_on, table_on}
-use Rattle.promises.proofs.Sets.{also, also_own, also_other}
+use Rattle.promises.proofs.Sets.{also}
 use Rattle.promises.proofs.Deciding.{decision_on, decided_is, decision_state, decision_detail}
 use Rattle.promises.proofs.Installing.{table_length, table_opening, table_ext, table_more}
 use Rattle.promises.proofs.SlotLaws.{state_by, by_started, by_gathered}
@@ -42,48 +37,37 @@ use Rattle.promises.proofs.SettleStep.{settled_more, own_list, own_values, depen
 
 -- ---- the calls, where checks 1 to 7 pass: the rest of the checks is one test
 
-module _ (image t g a : List ℕ) (k : ℕ) (called : (call_refusal image t g a).number ≡ 0) where
-  step_is : {A : Type 0} (nine : Bool) (stay go : A)
-      → unless (after (step_refusal image t g a k) (check nine refusal.state refusal.none)) (λ r. stay) go ≡ cond (ltb k (count_of image) && nine) go stay
-  unfolding step_refusal check unless
-  step_is {A} nine stay go = rw (eq-eqb (call_refusal image t g a).number 0 called) (cases (ltb k (count_of image)) nine)
-    where
-      cases : (l n : Bool)
-          → unless {A = A} (after (check l refusal.number refusal.none) (check n refusal.state refusal.none)) (λ r. stay) go ≡ cond (l && n) go stay
-      cases true true = refl
-      cases true false = refl
-      cases false n = refl
-
+module _ (image t g a : List ℕ) (k : ℕ) (called : call_refusal image t g a ≡ passed) where
   pub gather_is : gather_area image t g a k ≡ cond (ltb k (count_of image) && waits (length t) k a) (gathered_area image t g k a) a
-  unfolding gather_area gather_refusal
-  gather_is = step_is (waits (length t) k a) a (gathered_area image t g k a)
+  unfolding gather_area gather_refusal step_refusal check after unless
+  gather_is = grind arith
 
   pub settle_table_is : settle_table image t g a k
       ≡ cond (ltb k (count_of image) && is_ready (length t) (count_of image) k a) (settled_table (verdict image (length t) k a) k a t) t
-  unfolding settle_table settle_refusal
-  settle_table_is = step_is (is_ready (length t) (count_of image) k a) t (settled_table (verdict image (length t) k a) k a t)
+  unfolding settle_table settle_refusal step_refusal check after unless
+  settle_table_is = grind arith
 
   pub settle_area_is : settle_area image t g a k
       ≡ cond (ltb k (count_of image) && is_ready (length t) (count_of image) k a) (settled_area (verdict image (length t) k a) (length t) k a) a
-  unfolding settle_area settle_refusal
-  settle_area_is = step_is (is_ready (length t) (count_of image) k a) a (settled_area (verdict image (length t) k a) (length t) k a)
+  unfolding settle_area settle_refusal step_refusal check after unless
+  settle_area_is = grind arith
 
 -- ---- a batch that opens
 
 -- every run's log fits its slot
-pub runs_fit : (image t g : List ℕ) → (refusal_of image).number ≡ 0 → Fitting (batch_of image t g) (length t)
+pub runs_fit : (image t g : List ℕ) → refusal_of image ≡ passed → Fitting (batch_of image t g) (length t)
 unfolding Fitting
 runs_fit image t g e k l =
     run_kept (admits g) (part_of image k) t (part_short image (accepted image e).offsets k l)
 
 -- what the checks 1 to 5 and 14 have shown
 pub record Opens (image t g : List ℕ) : Type 0 where
-  pub accepted : (refusal_of image).number ≡ 0
+  pub accepted : refusal_of image ≡ passed
   pub cells_some : 0 < length t
   pub cells_few : length t ≤ max_cells
   pub pairs : Paired t g
 
-pub opens : (image t g found : List ℕ) → (open_refusal image t g found).number ≡ 0 → Opens image t g
+pub opens : (image t g found : List ℕ) → open_refusal image t g found ≡ passed → Opens image t g
 opens image t g found e =
     let r = open_shows image t g found e in
     record { accepted = r.accepted; cells_some = r.cells_some; cells_few = r.cells_few; pairs = r.pairs }
@@ -91,11 +75,7 @@ opens image t g found e =
 -- who waits has not run
 waiting_is : (s : ℕ) → eqb s waiting ≡ not (has_run s)
 unfolding has_run
-waiting_is s = go (zero_or s)
-  where
-    go : (s ≡ 0) ⊎ ((i : ℕ) × (s ≡ suc i)) → eqb s waiting ≡ not (leb gathered s)
-    go (inl e) = rw e
-    go (inr e) = rw e.1 (ne_eqb (suc e.0) waiting (λ z. omega arith) ∙ ap not (sym (le-leb gathered (suc e.0) (omega arith))))
+waiting_is s = grind arith
 
 -- nobody is settled before everybody is gathered
 unfoldable pub Phased : ℕ → (gathered settled : ℕ → Bool) → Type 0
@@ -136,7 +116,7 @@ module _ (image t g : List ℕ) (o : Opens image t g) where
     pub paired_on : Paired table g
     paired_on = rw (table_length b t S) o.pairs
 
-    pub call_on : (call_refusal image table g area).number ≡ 0
+    pub call_on : call_refusal image table g area ≡ passed
     call_on = checked_is image _ _ _ checked_on paired_on
 
     -- ---- check 9 on the way
@@ -157,26 +137,14 @@ module _ (image t g : List ℕ) (o : Opens image t g) where
     -- ---- gathering
 
     pub gather_on : (k : ℕ) → Phased n G S → gather_area image table g area k ≡ area_on b (also k G) S T
-    unfolding Phased
-    gather_on k phased = gather_is image table g area k call_on ∙ go (known (ltb k n)) (known (G k))
+    unfolding Phased also
+    gather_on k phased = grind (arith, gather_is image table g area k call_on, table_length b t S, waits_on k, goes, stays)
       where
-        stays : ((j : ℕ) → j < n → G j ≡ also k G j) → area ≡ area_on b (also k G) S T
-        stays same = on_ext b G S (also k G) S T same (λ j _ _. refl)
+        goes : k < n → G k ≡ false → gathered_area image table g k area ≡ area_on b (also k G) S T
+        goes l new = rw (table_opening b t S (λ j m. phased k j l m new)) (gathered_more b G S T k fitting l (phased k k l l new))
 
-        go : (ltb k n ≡ true) ⊎ (ltb k n ≡ false) → (G k ≡ true) ⊎ (G k ≡ false)
-            → cond (ltb k n && waits (length table) k area) (gathered_area image table g k area) area ≡ area_on b (also k G) S T
-        go (inr e) g = rw e (stays (λ j l. sym (also_other k G j (λ q. omega (arith, ltb-false k n e)))))
-        go (inl e) (inl g) =
-            let l : k < n = ltb-true k n e in
-            rw (e, table_length b t S, waits_on k l, g) (stays (λ j _. there j (ℕ_discrete j k)))
-          where
-            there : (j : ℕ) → Dec (j ≡ k) → G j ≡ also k G j
-            there j (yes q) = rw q (g ∙ sym (also_own k G))
-            there j (no q) = sym (also_other k G j q)
-        go (inl e) (inr g) =
-            let l : k < n = ltb-true k n e in
-            rw (e, table_opening b t S (λ j m. phased k j l m g), waits_on k l, g)
-            (gathered_more b G S T k fitting l (phased k k l l g))
+        stays : ltb k n && not (G k) ≡ false → area ≡ area_on b (also k G) S T
+        stays e = on_ext b G S (also k G) S T (λ j l. grind (arith, eqb-true)) (λ j _ _. refl)
 
     -- ---- settling
 
@@ -209,26 +177,13 @@ module _ (image t g : List ℕ) (o : Opens image t g) where
 
     settling : (k : ℕ) → asked k ≡ true → Settling k
     settling k e =
-        let w = and_both (ltb k n) _ e in
-        let l : k < n = ltb-true k n w.0 in
-        let s = and_both (every n G) _ (sym (ready_on k l) ∙ w.1) in
-        let r = and_both (G k && not (S k)) (gets_settled b k) s.1 in
-        let g = and_both (G k) (not (S k)) r.0 in
-        record { number = l; everybody = s.0; own = g.0; unsettled = nots (S k) g.1; ran = r.1 }
+        let l : k < n = ltb-true k n (and_left (ltb k n) _ e) in
+        grind (arith, ready_on k l)
 
     -- where they fail, nobody who is settled at all is newly settled
     not_settling : (k : ℕ) → asked k ≡ false → (j : ℕ) → j < n → gets_settled b j ≡ true → S j ≡ settled_too k j
-    not_settling k e j l f = go (known (every n G)) (ℕ_discrete j k)
-      where
-        go : (every n G ≡ true) ⊎ (every n G ≡ false) → Dec (j ≡ k) → S j ≡ cond (every n G) (also k S) S j
-        go (inr a) d = rw a
-        go (inl a) (no q) = rw a (sym (also_other k S j q))
-        go (inl a) (yes q) =
-            let m : k < n = rw q at l in
-            let settled : S k ≡ true =
-            not_false (λ s. clash (both_and (lt-ltb k n m)
-            (ready_on k m ∙ both_and a (both_and (both_and (every_at n G a k m) (ap not s)) (rw q at f)))) e) in
-            rw (a, q) (settled ∙ sym (also_own k S))
+    unfolding also
+    not_settling k e j l f = grind (arith, eqb-true, ready_on k, every_at n G)
 
     module _ (k : ℕ) (s : Settling k) where
       all : (j : ℕ) → j < n → G j ≡ true
@@ -239,36 +194,29 @@ module _ (image t g : List ℕ) (o : Opens image t g) where
 
       table_settled : settled_table (decision_on b k) k area table ≡ table_on b (also k S) t
       unfolding settled_table decision_on
-      table_settled = go (commits b k) ∙ sym (table_more b t S k s.number s.unsettled)
-        where
-          go : (c : Bool) → settled_table (cond c Committed (Carried (reason b k))) k area table
-              ≡ cond c (store_all (write_set b k) (new_values b k) table) table
-          go true =
-              rw (
-                table_length b t S,
-                own_list b G S T k fitting s.number all Stores,
-                own_values b G S T k fitting s.number all,
-              )
-          go false = refl
+      table_settled =
+          let values = own_values b G S T k fitting s.number all in
+          let cells = own_list b G S T k fitting s.number all Stores in
+          grind (arith, table_length b t S, table_more b t S k s.number s.unsettled)
 
       area_settled : settled_area (decision_on b k) T k area ≡ area_on b G (also k S) T
       area_settled =
           settled_more b G S T k fitting s.number s.own s.unsettled (decision_on b k) (decision_state b k s.ran) (decision_detail b k s.ran)
 
     pub settle_table_on : (k : ℕ) → settle_table image table g area k ≡ table_on b (settled_too k) t
-    settle_table_on k =
-        settle_table_is image table g area k call_on ∙ rw (table_length b t S) (go (known (asked k)))
+    settle_table_on k = grind (arith, settle_table_is image table g area k call_on, table_length b t S, done, stays)
       where
-        go : (asked k ≡ true) ⊎ (asked k ≡ false)
-            → cond (asked k) (settled_table (verdict image T k area) k area table) table ≡ table_on b (settled_too k) t
-        go (inl e) = let s = settling k e in rw (e, settles_as k s, s.everybody) (table_settled k s)
-        go (inr e) = rw e (table_ext b t S (settled_too k) (not_settling k e))
+        done : asked k ≡ true → settled_table (verdict image T k area) k area table ≡ table_on b (settled_too k) t
+        done e = let s = settling k e in rw (settles_as k s, s.everybody) (table_settled k s)
+
+        stays : asked k ≡ false → table ≡ table_on b (settled_too k) t
+        stays e = table_ext b t S (settled_too k) (not_settling k e)
 
     pub settle_area_on : (k : ℕ) → settle_area image table g area k ≡ area_on b G (settled_too k) T
-    settle_area_on k =
-        settle_area_is image table g area k call_on ∙ rw (table_length b t S) (go (known (asked k)))
+    settle_area_on k = grind (arith, settle_area_is image table g area k call_on, table_length b t S, done, stays)
       where
-        go : (asked k ≡ true) ⊎ (asked k ≡ false)
-            → cond (asked k) (settled_area (verdict image T k area) T k area) area ≡ area_on b G (settled_too k) T
-        go (inl e) = let s = settling k e in rw (e, settles_as k s, s.everybody) (area_settled k s)
-        go (inr e) = rw e (on_ext b G S G (settled_too k) T (λ _ _. refl) (not_settling k e))
+        done : asked k ≡ true → settled_area (verdict image T k area) T k area ≡ area_on b G (settled_too k) T
+        done e = let s = settling k e in rw (settles_as k s, s.everybody) (area_settled k s)
+
+        stays : asked k ≡ false → area ≡ area_on b G (settled_too k) T
+        stays e = on_ext b G S G (settled_too k) T (λ _ _. refl) (not_settling k e)

@@ -1,10 +1,11 @@
--- Document 02, ask 5: "the batch program lends the full range". A batch with the full range for every cell is the batch of before, so that nothing has
--- changed for whoever uses no guards. Assumes nothing.
+-- Document 02, ask 5: "the batch program lends the full range". A batch with the full range for every cell is the batch of before, so that nothing
+-- has changed for whoever uses no guards. Assumes nothing.
 use Prim.Native.Nat.{ℕ, ◌^◌, ◌<◌}
 use mathlib.Core.Path.{◌≡◌, ap, ◌∙◌}
 use mathlib.Core.List.{List}
 use lib.ListN.{length, get_or}
 use native.Mathlib.Omega.{arith}
+use Rattle.std.specs.Prelude.{Ok, Err}
 use Rattle.base.proofs.Tables.{tabulate_length}
 use borrow.Author.Tests.{eq-eqb}
 use Rattle.image.specs.Refusals.{check, unless}
@@ -15,7 +16,6 @@ use Rattle.guard.proofs.Laws.{full_range_lem}
 use Rattle.machine.specs.Runs.{free_run}
 use Rattle.machine.proofs.Guarded.{full_is_free}
 use Rattle.area.specs.Checks.{room_refusal, open_refusal, Paired}
-use Rattle.steps.specs.declared.Gathered.TheVariants.{Refused, Ran}
 use Rattle.steps.specs.Gathering.{gather_refusal, run_at, gathered_by, gather_answer, gather_area}
 use Rattle.promises.specs.Paper.{Batch, batch_of}
 use Rattle.promises.specs.Laid.{World, end_of}
@@ -37,7 +37,7 @@ module _ (image t g : List ℕ) (lent : NoGuards image t g) where
 
   -- and so is what each gathering answers and leaves, in whatever area
   pub free_gathering : (a : List ℕ) (k : ℕ)
-      → (gather_answer image t g a k ≡ unless (gather_refusal image t g a k) Refused (Ran (free_run (part_of image k) t).answer))
+      → (gather_answer image t g a k ≡ unless (gather_refusal image t g a k) Err (Ok (free_run (part_of image k) t).answer))
       × (gather_area image t g a k ≡ unless (gather_refusal image t g a k) (λ r. a) (gathered_by (length t) k (free_run (part_of image k) t) a))
   unfolding gather_answer gather_area
   free_gathering a k = (rw (free_run_lem k), rw (free_run_lem k))
@@ -48,6 +48,8 @@ unfolding open_refusal room_refusal pairs_for free_refusal check
 free_checks image t g a pairs = rw (eq-eqb (length g) (guard_words (length t)) pairs)
 
 -- and what `batch` and `why` lend is that: the full range, a pair for each cell
-pub full_lent : (image t : List ℕ) → ((i : ℕ) → get_or image i 0 < 256) → ((i : ℕ) → get_or t i 0 < 2 ^ 32) → NoGuards image t (full_for t) × Paired t (full_for t)
+pub full_lent : (image t : List ℕ) → ((i : ℕ) → get_or image i 0 < 256) → ((i : ℕ) → get_or t i 0 < 2 ^ 32)
+    → NoGuards image t (full_for t) × Paired t (full_for t)
 full_lent image t bytes cells =
-    (record { bytes = bytes; cells = cells; full = full_range_lem (guard_words (length t)) (length t) (omega arith) }, tabulate_length full_end (guard_words (length t)))
+    let full = full_range_lem (guard_words (length t)) (length t) (omega arith) in
+    (record { bytes = bytes; cells = cells; full = full }, tabulate_length full_end (guard_words (length t)))

@@ -1,17 +1,17 @@
--- Document 02, ask 3: "For a batch made by these calls, prove it of the programs' own runs from the opening table." The conclusions speak of the paper's
--- batch alone. Assumes nothing.
+-- Document 02, ask 3: "For a batch made by these calls, prove it of the programs' own runs from the opening table." The conclusions speak of the
+-- paper's batch alone. Assumes nothing.
 use Prim.Native.Nat.{ℕ, ◌<◌}
 use mathlib.Core.Path.{◌≡◌, refl, sym, ap, ◌∙◌}
-use mathlib.Core.Logic.{◌⊎◌, inl, inr}
-use mathlib.Core.Bool.{true, false, not, cond}
+use mathlib.Core.Bool.{true, false, cond}
 use mathlib.Core.List.{List}
 use native.Mathlib.Omega.{arith}
 use lib.ListN.{length}
 use borrow.Author.Tests.{eq-eqb}
-use Rattle.base.proofs.Bools.{known, nots, and_both}
-use Rattle.image.specs.Refusals as refusal
+use Rattle.std.specs.Prelude.{Ok, Err}
+use Rattle.image.specs.declared.refusals.Refusal.TheVariants as refusal
+use Rattle.image.specs.Refusals.{passed}
 use Rattle.image.specs.Image.{count_of}
-use Rattle.image.proofs.Refusing.{fails, goes_on, first_refuses, first_passes, number_of, unless_done}
+use Rattle.image.proofs.Refusing.{fails, goes_on, first_refuses, first_passes, unless_done}
 use Rattle.slot.specs.declared.Group.TheVariants as group
 use Rattle.slot.specs.declared.ListKind.{ListKind}
 use Rattle.slot.specs.declared.ListKind.TheVariants.{Reads, Stores}
@@ -22,12 +22,10 @@ use Rattle.area.specs.Marks.{list_for}
 use Rattle.area.proofs.Checks.{checked_is}
 use Rattle.steps.specs.declared.Reason.{Reason}
 use Rattle.steps.specs.declared.Reason.TheVariants.{Waw, Raw, RawWithWar}
-use Rattle.steps.specs.declared.Settled.{Settled}
 use Rattle.steps.specs.declared.Settled.TheVariants.{Carried}
-use Rattle.steps.specs.Answers.{reason_number, numbers_of_settled}
+use Rattle.steps.specs.Answers.{reason_number, detail_of_settled}
 use Rattle.steps.specs.Settling.{verdict}
 use Rattle.causes.specs.declared.answers.Cause.{Cause}
-use Rattle.causes.specs.declared.answers.Why.TheVariants as why
 use Rattle.causes.specs.Causes.{cause_of}
 use Rattle.causes.specs.Why.{explained, is_reason, explained_by, ask_refusal, carried_refusal, holds_reason, why_refusal, why_answer}
 use Rattle.causes.proofs.Refusals.{ask_passes}
@@ -57,7 +55,7 @@ module _ (image t g : List ℕ) (w : World) (run : RunToEnd image t g w) (k : �
 
   -- ---- the checks
 
-  pub asks : refusal.none ≡ ask_refusal image w.table g w.area k
+  pub asks : passed ≡ ask_refusal image w.table g w.area k
   unfolding is_over
   asks = ask_passes image w.table g w.area k (checked_is image w.table g w.area end.checks end.pairs) number run.over
 
@@ -72,11 +70,11 @@ module _ (image t g : List ℕ) (w : World) (run : RunToEnd image t g w) (k : �
   module _ (carried : is_carried_in b k ≡ true) where
     ran : gets_settled b k ≡ true
     unfolding is_carried_in
-    ran = (and_both (gets_settled b k) (not (commits b k)) carried).0
+    ran = grind arith
 
     uncommitted : commits b k ≡ false
     unfolding is_carried_in
-    uncommitted = nots (commits b k) (and_both (gets_settled b k) (not (commits b k)) carried).1
+    uncommitted = grind arith
 
     -- the decision is to carry it, and its slot says so
     carried_for : decision_on b k ≡ Carried (reason b k)
@@ -87,39 +85,37 @@ module _ (image t g : List ℕ) (w : World) (run : RunToEnd image t g w) (k : �
     decided_so = end.decides k number ran ∙ carried_for
 
     told_so : detail_of (length t) k w.area ≡ reason_number (reason b k)
-    told_so = end.detail_is k number ∙ (sym (decision_detail b k ran) ∙ ap (λ (v : Settled). (numbers_of_settled v).detail) carried_for)
+    told_so = end.detail_is k number ∙ (sym (decision_detail b k ran) ∙ ap detail_of_settled carried_for)
 
     reason_holds : holds_reason image (length w.table) k w.area ≡ true
     unfolding holds_reason is_reason
     reason_holds = rw (end_sized end, decided_so) (eq-eqb _ _ told_so)
 
-    not_refused : refusal.none ≡ why_refusal image w.table g w.area k
+    not_refused : passed ≡ why_refusal image w.table g w.area k
     unfolding why_refusal carried_refusal
     not_refused = first_passes (first_passes asks refl (goes_on _ (group_is ∙ carried) refl)) refl (goes_on _ reason_holds refl)
 
-    answered : why_answer image w.table g w.area k ≡ explained (reason b k) (length t) k w.area
+    answered : why_answer image w.table g w.area k ≡ Ok (explained (reason b k) (length t) k w.area)
     unfolding why_answer explained_by
     answered =
-        unless_done (why_refusal image w.table g w.area k) why.Refused _ (number_of (sym not_refused))
+        unless_done (why_refusal image w.table g w.area k) Err _ (sym not_refused)
         ∙ rw (end_sized end, decided_so)
 
     -- ---- the causes
 
-    causes_true : (r : Reason) → reason b k ≡ r → Has r b k → TrueOf b k (explained r (length t) k w.area)
+    causes_true : (r : Reason) → reason b k ≡ r → Has r b k → TrueOf b k (Ok (explained r (length t) k w.area))
     unfolding explained
     causes_true Waw e has = (e, cause_of_lem Stores Write has)
     causes_true Raw e has = (e, cause_of_lem Reads Write has)
     causes_true RawWithWar e has = (e, cause_of_lem Reads Write has.0, cause_of_lem Stores Read has.1)
 
   -- Every carried program gets its cause, and 13 is for the others: 15 never happens.
-  pub why_refuses : why_refusal image w.table g w.area k ≡ cond (is_carried_in b k) refusal.none refusal.not_carried
+  pub why_refuses : why_refusal image w.table g w.area k ≡ cond (is_carried_in b k) passed (Err refusal.NotCarried)
   unfolding why_refusal carried_refusal
-  why_refuses = go (known (is_carried_in b k))
+  why_refuses = grind (arith, not_refused, others)
     where
-      go : (is_carried_in b k ≡ true) ⊎ (is_carried_in b k ≡ false)
-          → why_refusal image w.table g w.area k ≡ cond (is_carried_in b k) refusal.none refusal.not_carried
-      go (inl e) = sym (not_refused e) ∙ rw e
-      go (inr e) = sym (first_refuses _ (first_passes asks refl (fails _ (group_is ∙ e))) (λ z. omega arith)) ∙ rw e
+      others : is_carried_in b k ≡ false → Err refusal.NotCarried ≡ why_refusal image w.table g w.area k
+      others e = first_refuses _ (first_passes asks refl (fails _ (group_is ∙ e))) refl
 
   -- "say the reason with its cause .. prove it of the programs' own runs from the opening table": the answer's reason is the paper's, its cell is the
   -- lowest that this program's run and an earlier finished program's share so, and the program is the smallest of those for that cell.

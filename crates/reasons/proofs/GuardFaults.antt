@@ -6,9 +6,11 @@ use mathlib.Core.Bool.{false}
 use mathlib.Core.List.{List}
 use native.Mathlib.Omega.{arith}
 use lib.ListN.{length}
+use Rattle.image.specs.Refusals.{passed}
 use Rattle.image.specs.Image.{count_of, refusal_of, part_of}
 use Rattle.guard.specs.Guards.{low_of, high_of, admits}
 use Rattle.slot.specs.States as state
+use Rattle.machine.specs.declared.FaultKind.TheVariants as fault
 use Rattle.machine.specs.declared.Run.TheVariants.{Faulted}
 use Rattle.machine.specs.Runs.{guard_fault, state_of_run, detail_of_run}
 use Rattle.machine.proofs.Laws.{part_runnable}
@@ -25,8 +27,8 @@ pub record TellsGuard (image opening t g a : List ℕ) (k at : ℕ) : Type 0 whe
   pub in_table : (last_store image opening g k).cell < length opening
   pub not_admitted_lem : admits g (last_store image opening g k).cell (last_store image opening g k).value ≡ false
 
-pub tells_guard : (image opening t g a : List ℕ) (k at : ℕ) → (refusal_of image).number ≡ 0 → k < count_of image
-    → (run_at image opening g k).answer ≡ Faulted guard_fault at
+pub tells_guard : (image opening t g a : List ℕ) (k at : ℕ) → refusal_of image ≡ passed → k < count_of image
+    → (run_at image opening g k).answer ≡ Faulted fault.Guard at
     → state_of (length t) k a ≡ state_of_run (run_at image opening g k).answer → detail_of (length t) k a ≡ detail_of_run (run_at image opening g k).answer
     → TellsGuard image opening t g a k at
 unfolding program_text guard_faulted guard_text

@@ -1,6 +1,6 @@
 -- The page of the program `why` (document 02, asks 3 and 5): of each program of a settled batch, in number order, why it ended as it did. What the library answers
 -- stands in `causes`, what is then said in `sentences`. Assumes nothing.
-use Rattle.std.specs.Prelude.{ℕ, ◌+◌, ◌-◌, ◌*◌, ◌/◌, ◌%◌, ◌<◌, ◌≡◌, Bool, cond, ◌&&◌, List, [], ◌++◌, eqb, length, Option, Some, None, Result, Ok, Err}
+use Rattle.std.specs.Prelude.{ℕ, ◌+◌, ◌-◌, ◌*◌, ◌/◌, ◌%◌, ◌<◌, ◌≡◌, Bool, cond, ◌&&◌, List, ◌++◌, eqb, length, Option, Some, None, Result, Ok, Err}
 use Rattle.base.specs.Words.{count}
 use Rattle.text.specs.Filled.{texts}
 use Rattle.image.specs.Limits.{max_programs}

@@ -2,13 +2,13 @@
 // is then said in `sentences`.
 #![tactic(auto)]
 
-ghost use Rattle.std.specs.Prelude.{◌≡◌, cond, ◌+◌, ◌≤◌, ◌<◌, length, get_or, replicate};
+ghost use Rattle.std.specs.Prelude.{◌≡◌, cond, ◌+◌, ◌≤◌, ◌<◌, length, get_or};
 ghost use Rattle.text.specs.Paper.{Put, Fits};
 ghost use Rattle.image.specs.Limits.{max_programs, max_cells};
 ghost use Rattle.slot.specs.declared.Group.TheVariants.{Carried};
 ghost use Rattle.slot.specs.States.{is_in};
 ghost use Rattle.area.specs.Checks.{HasSlot};
-ghost use Rattle.reasons.specs.Reasons.{committed_text, why_text, carried_text, faulted_text, place_of, ended_text, program_text, reasons_text, longest_page};
+ghost use Rattle.reasons.specs.Reasons.{committed_text, why_text, carried_text, faulted_text, place_of, ended_text, program_text, reasons_text};
 ghost use Rattle.reasons.specs.Reasons.{guard_faulted, last_store, guard_text, CanTell, CanRerun};
 
 use area::Batch;
@@ -19,14 +19,8 @@ use text::Page;
 // The most bytes of a page.
 pub const PAGE: usize = image::Image::PROGRAMS * sentences::LONGEST;
 
-// Room for a page.
-pub fn page_room() -> [u8; PAGE]
-    ensures { (longest_page ≡ length result) × (result ≡ replicate longest_page 0) }
-{
-    [0; PAGE]
-}
-
 // A committed program, by before whom it comes.
+#[tactic(auto, unfolding(crate::specs::Reasons::committed_text))]
 fn put_committed(page: &mut Page, answer: Result<Option<Cause>, Refusal>, number: u32)
     requires { Fits page.old (committed_text answer number) }
     ensures { Put page.old (committed_text answer number) page.new }
@@ -39,6 +33,7 @@ fn put_committed(page: &mut Page, answer: Result<Option<Cause>, Refusal>, number
 }
 
 // Why a carried program was carried.
+#[tactic(auto, unfolding(crate::specs::Reasons::why_text))]
 fn put_why(page: &mut Page, why: Why, number: u32)
     requires { Fits page.old (why_text why number) }
     ensures { Put page.old (why_text why number) page.new }
@@ -51,6 +46,7 @@ fn put_why(page: &mut Page, why: Why, number: u32)
 }
 
 // A carried program, and what comes of it: in place p of the next batch it ends within p + 1 batches.
+#[tactic(auto, unfolding(crate::specs::Reasons::carried_text, crate::specs::Reasons::again_text))]
 fn put_carried(page: &mut Page, answer: Result<Why, Refusal>, number: u32, place: u32)
     requires { (place < max_programs) × Fits page.old (carried_text answer number place) }
     ensures { Put page.old (carried_text answer number place) page.new }
@@ -65,6 +61,7 @@ fn put_carried(page: &mut Page, answer: Result<Why, Refusal>, number: u32, place
 }
 
 // A program that faulted on a table of so many cells, by its detail; one that no load and no store outside the table leaves is refused.
+#[tactic(auto, unfolding(crate::specs::Reasons::faulted_text))]
 fn put_faulted(page: &mut Page, number: u32, detail: u32, cells: usize)
     requires { (0 < cells) × (cells ≤ max_cells) × Fits page.old (faulted_text number detail cells) }
     ensures { Put page.old (faulted_text number detail cells) page.new }
@@ -93,6 +90,7 @@ fn with_carried(count: u32, state: u32) -> u32
 }
 
 // How many of the programs before this one are carried: its number in the next batch, if it is carried.
+#[tactic(auto, using(crate::proofs::Pages::places))]
 fn place_of(area: &[u32], cells: usize, number: usize) -> u32
     requires { HasSlot cells number area.now }
     ensures { result ≡ place_of cells number area.now }
@@ -105,9 +103,10 @@ fn place_of(area: &[u32], cells: usize, number: usize) -> u32
 }
 
 // One program, by the state that it ended in; one that has not ended is refused.
+#[tactic(auto, using(crate::proofs::Pages::places), unfolding(crate::specs::Reasons::ended_text, area::specs::Layout::in_group))]
 fn put_program(page: &mut Page, batch: Batch, number: usize)
     requires { HasSlot (length batch.table.now) number batch.area.now × (0 < length batch.table.now) × Fits page.old (ended_text batch.image.now batch.table.now batch.guards.now batch.area.now number) }
-    ensures { Put page.old (ended_text batch.image.now batch.table.now batch.guards.now batch.area.now number) page.new }
+    ensures { Put page.old (ended_text batch.entry.image.now batch.entry.table.now batch.entry.guards.now batch.entry.area.now number) page.new }
 {
     let cells = batch.table.len();
     let state = area::state(batch.area, cells, number);
@@ -120,7 +119,13 @@ fn put_program(page: &mut Page, batch: Batch, number: usize)
         return put_faulted(page, shown, detail, cells);
     }
     if slot::is_in(slot::Group::Committed, state) {
-        let answer = causes::comes_before(batch.image, batch.table, batch.guards, batch.area, number);
+        let answer = causes::comes_before(
+            batch.image,
+            batch.table,
+            batch.guards,
+            batch.area,
+            number,
+        );
         return put_committed(page, answer, shown);
     }
     if slot::is_in(slot::Group::Carried, state) {
@@ -131,6 +136,7 @@ fn put_program(page: &mut Page, batch: Batch, number: usize)
 }
 
 // Whether a program faulted at a guard.
+#[tactic(auto, unfolding(crate::specs::Reasons::guard_faulted))]
 fn guard_faulted(area: &[u32], cells: usize, number: usize) -> bool
     requires { HasSlot cells number area.now }
     ensures { result ≡ guard_faulted cells number area.now }
@@ -159,6 +165,7 @@ fn last_store(image: &[u8], opening: &[u32], guards: &[u32], number: usize) -> m
 }
 
 // A program that faulted at a guard, with the place that its detail has.
+#[tactic(auto, using(area::proofs::Checks::few), unfolding(crate::specs::Reasons::guard_text))]
 fn put_guard_fault(
     page: &mut Page,
     image: &[u8],
@@ -178,9 +185,10 @@ fn put_guard_fault(
 }
 
 // One program: one that a guard stopped, or any other. `opening` is the table as it was when the batch was opened.
+#[tactic(auto, unfolding(crate::specs::Reasons::program_text))]
 fn put_one(page: &mut Page, opening: &[u32], batch: Batch, number: usize)
     requires { CanRerun batch.image.now opening.now batch.guards.now number × HasSlot (length batch.table.now) number batch.area.now × (0 < length batch.table.now) × Fits page.old (program_text batch.image.now opening.now batch.table.now batch.guards.now batch.area.now number) }
-    ensures { Put page.old (program_text batch.image.now opening.now batch.table.now batch.guards.now batch.area.now number) page.new }
+    ensures { Put page.old (program_text batch.entry.image.now opening.now batch.entry.table.now batch.entry.guards.now batch.entry.area.now number) page.new }
 {
     let cells = batch.table.len();
     if !guard_faulted(batch.area, cells, number) {
@@ -191,9 +199,10 @@ fn put_one(page: &mut Page, opening: &[u32], batch: Batch, number: usize)
 }
 
 // Every program of a settled batch, in number order; `opening` is the table as it was when the batch was opened.
+#[tactic(auto, using(text::proofs::Fillings::turns), unfolding(crate::specs::Reasons::reasons_text))]
 pub fn put_reasons(page: &mut Page, opening: &[u32], batch: Batch)
     requires { CanTell batch.image.now opening.now batch.table.now batch.guards.now batch.area.now × Fits page.old (reasons_text batch.image.now opening.now batch.table.now batch.guards.now batch.area.now) }
-    ensures { Put page.old (reasons_text batch.image.now opening.now batch.table.now batch.guards.now batch.area.now) page.new }
+    ensures { Put page.old (reasons_text batch.entry.image.now opening.now batch.entry.table.now batch.entry.guards.now batch.entry.area.now) page.new }
 {
     for k in 0..image::count(batch.image) {
         put_one(page, opening, batch, k);

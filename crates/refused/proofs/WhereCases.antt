@@ -5,6 +5,7 @@ use mathlib.Core.Path.{◌≡◌, refl}
 use mathlib.Core.List.{List, [], ◌∷◌, ◌++◌, map}
 use lib.ListN.{replicate}
 use Rattle.text.specs.Ascii.{ascii}
+use Rattle.image.specs.declared.refusals.Fault.TheVariants.{Register}
 use Rattle.image.specs.Assembler.{Instruction, instruction, end, set, load, skipequal, reject, program, fields, image}
 use Rattle.refused.specs.Where.{where_at_line, image_where}
 use Rattle.refused.specs.Opened.{opened}
@@ -24,7 +25,7 @@ unfolding opened
 four_sentences = refl
 
 -- with its line in a sheet
-with_a_line : where_at_line (record { number = 42; program = 2; instruction = 5 }) 14 9 ≡ ascii "line 14, program 2, instruction 5: register 9 is over 7\n"
+with_a_line : where_at_line (record { fault = Register; program = 2; instruction = 5 }) 14 9 ≡ ascii "line 14, program 2, instruction 5: register 9 is over 7\n"
 unfolding opened
 with_a_line = refl
 

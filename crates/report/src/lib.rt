@@ -3,8 +3,8 @@
 // it (ask 2).
 #![tactic(auto)]
 
-ghost use Rattle.std.specs.Prelude.{◌≡◌, ◌≤◌, ◌<◌, length};
-ghost use Rattle.text.specs.Writing.{Wrote, PageSays};
+ghost use Rattle.std.specs.Prelude.{◌≡◌, ◌≤◌, length};
+ghost use Rattle.text.specs.Writing.{PageSays};
 ghost use Rattle.text.specs.Paper.{Put, Fits};
 ghost use Rattle.image.specs.Limits.{max_programs, max_cells};
 ghost use Rattle.guard.specs.Guards.{guard_words};
@@ -38,6 +38,7 @@ struct Used {
 }
 
 // Gathers the first n programs in number order.
+#[tactic(auto, using(crate::proofs::Batches::turns))]
 fn gather_all(image: &[u8], table: &[u32], guards: &[u32], area: &mut [u32], n: usize)
     ensures { area.new ≡ gather_first image.now table.now guards.now area.old n }
 {
@@ -47,6 +48,7 @@ fn gather_all(image: &[u8], table: &[u32], guards: &[u32], area: &mut [u32], n: 
 }
 
 // Settles the first n programs in number order; one that was rejected or faulted keeps its state and detail.
+#[tactic(auto, using(crate::proofs::Batches::turns))]
 fn settle_all(image: &[u8], table: &mut [u32], guards: &[u32], area: &mut [u32], n: usize)
     ensures { Leaves (settle_first image.now guards.now (lent table.old area.old) n) table.new area.new }
 {
@@ -56,12 +58,7 @@ fn settle_all(image: &[u8], table: &mut [u32], guards: &[u32], area: &mut [u32],
 }
 
 // Opens, gathers and settles in number order, unless opening is refused.
-fn run_in(
-    image: &[u8],
-    table: &mut [u32],
-    guards: &[u32],
-    area: &mut [u32],
-) -> Result<(), Refusal>
+fn run_in(image: &[u8], table: &mut [u32], guards: &[u32], area: &mut [u32]) -> Result<(), Refusal>
     ensures { RunsIn image.now table.old guards.now area.old result table.new area.new }
 {
     sheetbendle::open(image, table, guards, area)?;
@@ -82,10 +79,11 @@ fn run_on(
     requires { Room image.now table.old areas.old words }
     ensures { Runs image.now table.old guards.now words result table.new areas.new }
 {
-    run_in(image, table, guards, &mut areas[0..words])
+    run_in(image, table, guards, &mut areas[..words])
 }
 
 // How many programs the header names, 0 where that is over the limit: opening then refuses the image before it looks at the area.
+#[tactic(auto, unfolding(crate::specs::Runs::programs_in))]
 fn programs_in(image: &[u8]) -> u16
     ensures { (result ≡ programs_in image.now) × (result ≤ max_programs) }
 {
@@ -168,34 +166,16 @@ fn run_input(
         from,
         input,
         image,
-        &mut tables[0..cells],
-        &mut guards[0..guard::ENDS * cells],
+        &mut tables[..cells],
+        &mut guards[..guard::ENDS * cells],
         areas,
         words,
     )?;
     Ok(Used { cells, words })
 }
 
-// Room for the largest table, for its guards, and for the largest area.
-fn table_room() -> [u32; image::Image::CELLS]
-    ensures { max_cells ≡ length result }
-{
-    [0; image::Image::CELLS]
-}
-
+// The guards of the largest table.
 const GUARD_WORDS: usize = guard::ENDS * image::Image::CELLS;
-
-fn guard_room() -> [u32; GUARD_WORDS]
-    ensures { guard_words max_cells ≡ length result }
-{
-    [0; GUARD_WORDS]
-}
-
-fn area_room() -> [u32; sheetbendle::AREA_WORDS]
-    ensures { area_words max_cells max_programs ≡ length result }
-{
-    [0; sheetbendle::AREA_WORDS]
-}
 
 // What is wanted of a batch: what came of it, or why.
 #[derive(Clone, Copy)]
@@ -207,7 +187,7 @@ enum Wanted {
 // The page that is wanted; `opening` is the table as it was when the batch was opened.
 fn put_page(wanted: Wanted, page: &mut Page, opening: &[u32], batch: Batch)
     requires { CanTell batch.image.now opening.now batch.table.now batch.guards.now batch.area.now × Fits page.old (page_text wanted batch.image.now opening.now batch.table.now batch.guards.now batch.area.now) }
-    ensures { Put page.old (page_text wanted batch.image.now opening.now batch.table.now batch.guards.now batch.area.now) page.new }
+    ensures { Put page.old (page_text wanted batch.entry.image.now opening.now batch.entry.table.now batch.entry.guards.now batch.entry.area.now) page.new }
 {
     match wanted {
         Wanted::Results => results::put_listing(page, batch),
@@ -216,19 +196,34 @@ fn put_page(wanted: Wanted, page: &mut Page, opening: &[u32], batch: Batch)
 }
 
 // The page of a settled batch, for which the table as it was is read again.
-fn put_settled(wanted: Wanted, out: &mut [u8], input: &[u8], batch: Batch) -> usize
-    requires { (prefix_bytes (length batch.table.now) ≤ length input.now) × CanTell batch.image.now (table_in input.now (length batch.table.now)) batch.table.now batch.guards.now batch.area.now × (page_most wanted ≤ length out.old) }
-    ensures { Wrote out.old 0 (page_text wanted batch.image.now (table_in input.now (length batch.table.now)) batch.table.now batch.guards.now batch.area.now) out.new result }
+fn put_settled(
+    wanted: Wanted,
+    out: &mut [u8],
+    input: &[u8],
+    image: &[u8],
+    table: &[u32],
+    guards: &[u32],
+    area: &[u32],
+) -> usize
+    requires { (prefix_bytes (length table.now) ≤ length input.now) × CanTell image.now (table_in input.now (length table.now)) table.now guards.now area.now × (page_most wanted ≤ length out.old) }
+    ensures { PageSays (page_text wanted image.now (table_in input.now (length table.now)) table.now guards.now area.now) out.old result out.new }
 {
-    let mut room = table_room();
-    let opening = &mut room[0..batch.table.len()];
+    let mut room = [0u32; image::Image::CELLS];
+    let opening = &mut room[..table.len()];
     input::read_cells(input, opening);
     let mut page = Page::new(out);
+    let batch = Batch {
+        image,
+        table,
+        guards,
+        area,
+    };
     put_page(wanted, &mut page, opening, batch);
     page.end()
 }
 
 // The line of a refusal.
+#[tactic(auto, using(crate::proofs::Pages::rooms))]
 fn refused_page(refusal: Refusal, out: &mut [u8]) -> usize
     requires { most_refused ≤ length out.old }
     ensures { PageSays (refused_line refusal) out.old result out.new }
@@ -239,22 +234,26 @@ fn refused_page(refusal: Refusal, out: &mut [u8]) -> usize
 }
 
 // Runs the batch that the input holds and makes the page that is wanted of it, or the refusal's line.
+#[tactic(auto, using(crate::proofs::Pages::rooms))]
 fn make_page(wanted: Wanted, from: Guards, input: &[u8], out: &mut [u8]) -> usize
     requires { page_most wanted ≤ length out.old }
     ensures { PageSays (page_of (page_text wanted) from input.now) out.old result out.new }
 {
-    let mut tables = table_room();
-    let mut guards = guard_room();
-    let mut areas = area_room();
+    let mut tables = [0u32; image::Image::CELLS];
+    let mut guards = [0u32; GUARD_WORDS];
+    let mut areas = [0u32; sheetbendle::AREA_WORDS];
     match run_input(from, input, &mut tables, &mut guards, &mut areas) {
         Ok(used) => {
-            let batch = Batch {
-                image: input::image_behind(input, image_start(from, used.cells)),
-                table: &tables[0..used.cells],
-                guards: &guards[0..guard::ENDS * used.cells],
-                area: &areas[0..used.words],
-            };
-            put_settled(wanted, out, input, batch)
+            let image = input::image_behind(input, image_start(from, used.cells));
+            put_settled(
+                wanted,
+                out,
+                input,
+                image,
+                &tables[..used.cells],
+                &guards[..guard::ENDS * used.cells],
+                &areas[..used.words],
+            )
         }
         Err(refusal) => refused_page(refusal, out),
     }

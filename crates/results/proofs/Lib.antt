@@ -1,5 +1,3 @@
-pub mod Lines
-pub mod Orders
 pub mod Short
 pub mod Unique
 pub mod Cases

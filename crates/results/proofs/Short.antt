@@ -3,26 +3,21 @@ use mathlib.Core.Bool.{Bool, true, false, cond}
 use mathlib.Core.List.{List, [], ◌∷◌, ◌++◌}
 use Prim.Native.Nat.{ℕ, zero, suc, ◌≤◌, ◌<◌}
 use native.Mathlib.Omega.{arith}
-use lib.Dec.{eqb, leb}
+use lib.Dec.{eqb}
 use lib.ListN.{length, get_or, length-append}
 use Rattle.base.specs.Words.{first}
 use Rattle.base.proofs.Members.{has_get_or}
 use Rattle.text.specs.Ascii.{ascii}
 use Rattle.text.specs.Filled.{filled, texts}
 use Rattle.text.proofs.Fillings.{filled_short, texts_short}
-use Rattle.image.specs.declared.Refusal.{Refusal}
 use Rattle.image.specs.Limits.{max_programs, max_cells}
-use Rattle.image.specs.Refusals.{check}
-use Rattle.image.specs.Image.{count_of, second_rule, refusal_of}
-use Rattle.image.proofs.Laws.{refusal_few}
+use Rattle.image.specs.Image.{count_of, second_rule}
 use Rattle.image.proofs.Refusing.{unless_either}
-use Rattle.guard.specs.Guards.{pairs_for}
 use Rattle.slot.specs.declared.Group.TheVariants.{Committed}
 use Rattle.slot.specs.States.{waiting, gathered, rejected, faulted, committed}
 use Rattle.area.specs.Layout.{state_of, detail_at, detail_of, in_group, reads_of, stores_of}
-use Rattle.area.specs.Checks.{table_good, size_is, words_good, all_ended, room_refusal, open_refusal, call_refusal, ended_refusal}
 use Rattle.listing.specs.Order.{ready, without, grow, listed}
-use Rattle.listing.specs.Listing.{order_of, order_exists, list_refusal, order_refusal}
+use Rattle.listing.specs.Listing.{order_of, order_refusal}
 use Rattle.listing.proofs.Whole.{listed_members}
 use Rattle.refused.specs.Refused.{refused_line}
 use Rattle.refused.proofs.Lines.{refused_short}
@@ -32,38 +27,6 @@ use Rattle.results.specs.Listing.{most, most_program, most_order, most_listing}
 -- the words of a list have 32 bits, as those of a slice of u32 do
 pub record Narrow (xs : List ℕ) : Type 0 where
   pub word : (i : ℕ) → get_or xs i 0 < 4294967296
-
--- ---- a refusal
-
--- its number has 32 bits: it is that of one of the checks
-abbrev pub Small : Refusal → Type 0
-Small r = r.number < 4294967296
-
-pub check_small : (holds : Bool) (gives rest : Refusal) → Small gives → Small rest → Small (check holds gives rest)
-unfolding check
-check_small true gives rest g r = r
-check_small false gives rest g r = g
-
-module _ (image t g a : List ℕ) where
-  pub open_small : Small (open_refusal image t g a)
-  unfolding open_refusal room_refusal
-  open_small =
-      check_small _ (refusal_of image) _ (omega (arith, refusal_few image))
-      (check_small (table_good t) _ _ (omega arith) (check_small (pairs_for (length t) g) _ _ (omega arith) (check_small (size_is (length t) (count_of image) a) _ _ (omega arith) (omega arith))))
-
-  ended_small : Small (ended_refusal image t g a)
-  unfolding ended_refusal call_refusal
-  ended_small =
-      check_small _ (call_refusal image t g a) _
-      (check_small _ (open_refusal image t g a) _ open_small (check_small (words_good (length t) (count_of image) a) _ _ (omega arith) (omega arith)))
-      (check_small (all_ended (length t) (count_of image) a) _ _ (omega arith) (omega arith))
-
-  order_small : (list : List ℕ) → Small (order_refusal image t g a list)
-  unfolding order_refusal list_refusal
-  order_small list =
-      check_small _ (list_refusal image t g a list) _
-      (check_small _ (ended_refusal image t g a) _ ended_small (check_small (leb (count_of image) (length list)) _ _ (omega arith) (omega arith)))
-      (check_small (order_exists (length t) (count_of image) a) _ _ (omega arith) (omega arith))
 
 -- ---- each line
 
@@ -168,5 +131,5 @@ module _ (image t g a : List ℕ) (n : count_of image ≤ max_programs) (l : len
   unfolding listing
   listing_short =
       unless_either (λ x. length x ≤ most_listing) (order_refusal image t g a order_room) refused_line (listing_with (order_of (length t) (count_of image) a) image t a)
-      (omega (arith, refused_short (order_refusal image t g a order_room) (order_small image t g a order_room)))
+      (λ r e. omega (arith, refused_short r))
       (λ e. with_short)

@@ -2,14 +2,14 @@
 // a buffer.
 #![tactic(auto)]
 
-ghost use Rattle.std.specs.Prelude.{◌≡◌, ◌≤◌, ◌<◌, length};
+ghost use Rattle.std.specs.Prelude.{◌≡◌, ◌≤◌, length};
 ghost use Rattle.text.specs.Paper.{Put, Fits};
 ghost use Rattle.text.specs.Filled.{texts};
 ghost use Rattle.image.specs.Limits.{max_cells};
 ghost use Rattle.image.specs.Image.{count_of};
 ghost use Rattle.area.specs.Checks.{Measured, HasSlot};
 ghost use Rattle.results.specs.Listing.{rule_in_force, first_line, word_of, program_line, program_lines};
-ghost use Rattle.results.specs.Listing.{order_entry, order_line, cell_line, cell_lines, listing_with, listing, most_listing};
+ghost use Rattle.results.specs.Listing.{order_entry, order_line, cell_lines, listing_with, listing};
 
 use area::Batch;
 use text::Page;
@@ -30,13 +30,6 @@ pub const BYTES: usize = FIRST_BYTES
     + ORDER_BYTES
     + image::Image::CELLS * CELL_BYTES;
 
-// Room for every listing.
-pub fn room() -> [u8; BYTES]
-    ensures { most_listing ≡ length result }
-{
-    [0; BYTES]
-}
-
 // The rule in force.
 fn rule_in_force(image: &[u8]) -> u32
     ensures { result ≡ rule_in_force image.now }
@@ -45,6 +38,7 @@ fn rule_in_force(image: &[u8]) -> u32
 }
 
 // Cells, programs, rule in force.
+#[tactic(auto, unfolding(crate::specs::Listing::first_line))]
 fn put_first(page: &mut Page, image: &[u8], table: &[u32])
     requires { (length table.now ≤ max_cells) × Fits page.old (first_line image.now table.now) }
     ensures { Put page.old (first_line image.now table.now) page.new }
@@ -55,6 +49,7 @@ fn put_first(page: &mut Page, image: &[u8], table: &[u32])
 }
 
 // A state's word in the work area's list.
+#[tactic(auto, unfolding(crate::specs::Listing::word_of))]
 fn put_word(page: &mut Page, state: u32)
     requires { Fits page.old (word_of state) }
     ensures { Put page.old (word_of state) page.new }
@@ -70,6 +65,7 @@ fn put_word(page: &mut Page, state: u32)
 }
 
 // A program's number, state and detail.
+#[tactic(auto, unfolding(crate::specs::Listing::program_line))]
 fn put_program(page: &mut Page, area: &[u32], cells: usize, number: usize)
     requires { HasSlot cells number area.now × Fits page.old (program_line cells area.now number) }
     ensures { Put page.old (program_line cells area.now number) page.new }
@@ -80,6 +76,7 @@ fn put_program(page: &mut Page, area: &[u32], cells: usize, number: usize)
 }
 
 // The line of each of n programs.
+#[tactic(auto, using(text::proofs::Fillings::turns))]
 fn put_programs(page: &mut Page, area: &[u32], cells: usize, n: usize)
     requires { Measured cells n area.now × Fits page.old (program_lines cells n area.now) }
     ensures { Put page.old (program_lines cells n area.now) page.new }
@@ -90,6 +87,7 @@ fn put_programs(page: &mut Page, area: &[u32], cells: usize, n: usize)
 }
 
 // Every entry of the listed order.
+#[tactic(auto, using(text::proofs::Fillings::turns), unfolding(crate::specs::Listing::order_entry))]
 fn put_entries(page: &mut Page, order: &[u32])
     requires { Fits page.old (texts (order_entry order.now) (length order.now)) }
     ensures { Put page.old (texts (order_entry order.now) (length order.now)) page.new }
@@ -100,6 +98,7 @@ fn put_entries(page: &mut Page, order: &[u32])
 }
 
 // The listed order.
+#[tactic(auto, unfolding(crate::specs::Listing::order_line))]
 fn put_order(page: &mut Page, order: &[u32])
     requires { Fits page.old (order_line order.now) }
     ensures { Put page.old (order_line order.now) page.new }
@@ -110,6 +109,7 @@ fn put_order(page: &mut Page, order: &[u32])
 }
 
 // The line of each cell: the cell and its value.
+#[tactic(auto, using(text::proofs::Fillings::turns), unfolding(crate::specs::Listing::cell_line))]
 fn put_cells(page: &mut Page, table: &[u32])
     requires { (length table.now ≤ max_cells) × Fits page.old (cell_lines table.now) }
     ensures { Put page.old (cell_lines table.now) page.new }
@@ -120,23 +120,36 @@ fn put_cells(page: &mut Page, table: &[u32])
 }
 
 // The listing with this order.
+#[tactic(auto, unfolding(crate::specs::Listing::listing_with))]
 fn put_with(page: &mut Page, order: &[u32], batch: Batch)
     requires { Measured (length batch.table.now) (count_of batch.image.now) batch.area.now × Fits page.old (listing_with order.now batch.image.now batch.table.now batch.area.now) }
-    ensures { Put page.old (listing_with order.now batch.image.now batch.table.now batch.area.now) page.new }
+    ensures { Put page.old (listing_with order.now batch.entry.image.now batch.entry.table.now batch.entry.area.now) page.new }
 {
     put_first(page, batch.image, batch.table);
-    put_programs(page, batch.area, batch.table.len(), image::count(batch.image));
+    put_programs(
+        page,
+        batch.area,
+        batch.table.len(),
+        image::count(batch.image),
+    );
     put_order(page, order);
     put_cells(page, batch.table);
 }
 
 // All that came of a settled batch; where it has no listed order, the refusal.
+#[tactic(auto, unfolding(crate::specs::Listing::listing, listing::specs::Listing::order_answer, listing::specs::Listing::order_list, image::specs::Refusals::unless))]
 pub fn put_listing(page: &mut Page, batch: Batch)
     requires { Measured (length batch.table.now) (count_of batch.image.now) batch.area.now × Fits page.old (listing batch.image.now batch.table.now batch.guards.now batch.area.now) }
-    ensures { Put page.old (listing batch.image.now batch.table.now batch.guards.now batch.area.now) page.new }
+    ensures { Put page.old (listing batch.entry.image.now batch.entry.table.now batch.entry.guards.now batch.entry.area.now) page.new }
 {
     let mut order = [0u32; image::Image::PROGRAMS];
-    match listing::order(batch.image, batch.table, batch.guards, batch.area, &mut order) {
+    match listing::order(
+        batch.image,
+        batch.table,
+        batch.guards,
+        batch.area,
+        &mut order,
+    ) {
         Ok(count) => put_with(page, &order[..count], batch),
         Err(refusal) => refused::put_refused(page, refusal),
     }

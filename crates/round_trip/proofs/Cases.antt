@@ -9,8 +9,10 @@ use borrow.Author.Tests.{ltb-true}
 use Rattle.base.specs.Words.{every}
 use Rattle.base.proofs.Numbers.{every_at}
 use Rattle.text.specs.Ascii.{ascii}
+use Rattle.image.specs.Refusals.{told_of_image}
 use Rattle.image.specs.Image.{refusal_of}
 use Rattle.image.specs.Assembler.{image, program, end, set, load, store, add, sub, skipless, skipequal, reject}
+use Rattle.sheet.specs.Answers.{told_of_sheet}
 use Rattle.from_sheet.specs.FromSheet.{image_of_sheet, sheet_refusal}
 use Rattle.from_sheet.specs.Opened as from_sheet
 use Rattle.from_image.specs.FromImage.{sheet_of_image}
@@ -23,7 +25,7 @@ bytes =
     image 2
     (program (set 0 513 ∷ load 1 2 ∷ store 3 4 ∷ add 5 6 7 ∷ sub 7 6 5 ∷ skipless 1 2 2 ∷ skipequal 3 4 1 ∷ reject 255 ∷ end ∷ []) ∷ [] ∷ program (end ∷ []) ∷ [])
 
-image_there_and_back : ((refusal_of bytes).number ≡ 0) × ((sheet_refusal (sheet_of_image bytes)).number ≡ 0) × (image_of_sheet (sheet_of_image bytes) ≡ bytes)
+image_there_and_back : ((told_of_image (refusal_of bytes)).number ≡ 0) × ((told_of_sheet (sheet_refusal (sheet_of_image bytes))).number ≡ 0) × (image_of_sheet (sheet_of_image bytes) ≡ bytes)
 unfolding from_sheet.opened from_image.opened
 image_there_and_back = (refl, refl, refl)
 
@@ -39,7 +41,7 @@ image_bytes = is_bytes bytes refl
 abbrev text : List ℕ
 text = ascii "rule 1\nprogram\nset 0 0 7\nset 1 0 10\nstore 0 1 0\nprogram\nprogram\nskipless 0 1 1\nreject 100 0 0\nend 0 0 0\n"
 
-sheet_there_and_back : ((sheet_refusal text).number ≡ 0) × ((refusal_of (image_of_sheet text)).number ≡ 0) × (sheet_of_image (image_of_sheet text) ≡ text)
+sheet_there_and_back : ((told_of_sheet (sheet_refusal text)).number ≡ 0) × ((told_of_image (refusal_of (image_of_sheet text))).number ≡ 0) × (sheet_of_image (image_of_sheet text) ≡ text)
 unfolding from_sheet.opened from_image.opened
 sheet_there_and_back = (refl, refl, refl)
 
@@ -51,7 +53,7 @@ unfolding from_sheet.opened from_image.opened
 none_there_and_back = (refl, refl)
 
 -- why an image has to be bytes: a code of 256 passes the image's checks, and its sheet is refused
-no_byte : ((refusal_of (image 1 (program (reject 256 ∷ []) ∷ []))).number ≡ 0)
-    × ((sheet_refusal (sheet_of_image (image 1 (program (reject 256 ∷ []) ∷ [])))).number ≡ 51)
+no_byte : ((told_of_image (refusal_of (image 1 (program (reject 256 ∷ []) ∷ [])))).number ≡ 0)
+    × ((told_of_sheet (sheet_refusal (sheet_of_image (image 1 (program (reject 256 ∷ []) ∷ []))))).number ≡ 51)
 unfolding from_sheet.opened from_image.opened
 no_byte = (refl, refl)

@@ -3,19 +3,22 @@ use mathlib.Core.Path.{◌≡◌, refl, sym, ◌∙◌}
 use mathlib.Core.Bool.{true}
 use mathlib.Core.List.{List, [], ◌∷◌}
 use Prim.Native.Nat.{ℕ, ◌≤◌}
-use native.Mathlib.Omega.{arith}
-use lib.Dec.{eqb, leb}
+use lib.Dec.{leb}
 use lib.ListN.{length}
-use borrow.Author.Tests.{leb-true, eqb-true, le-leb, eq-eqb}
+use borrow.Author.Tests.{leb-true, le-leb, eq-eqb}
 use Rattle.base.proofs.Bools.{and_both, both_and}
 use Rattle.image.specs.Limits.{max_programs, max_program_bytes}
-use Rattle.image.specs.Refusals as refusal
+use Rattle.image.specs.declared.refusals.ImageRefusal.TheVariants.{Header, Offsets, Instruction}
+use Rattle.image.specs.Refusals.{passed}
 use Rattle.image.specs.Instruction.{program_good}
-use Rattle.image.proofs.Refusing.{goes_on, none_fails, number_of}
+use Rattle.image.proofs.Refusing.{goes_on, none_fails, passed_is, is_passed, given_passed, passed_given}
 use Rattle.writer.proofs.Good.{All}
+use Rattle.sheet.specs.declared.Unwritten.TheVariants.{BadLine}
+use Rattle.sheet.specs.Answers.{as_image}
 use Rattle.sheet.specs.Sheet.{bad_line}
 use Rattle.from_sheet.specs.FromSheet.{programs_of, all, few_programs, short_programs, programs_fault, programs_refusal, sheet_refusal}
 use Rattle.from_sheet.proofs.Faults.{programs_pass}
+use Rattle.from_sheet.proofs.Says.{sheet_shown}
 use Rattle.round_trip.proofs.Programs.{Whole}
 
 -- ---- the programs of a sheet
@@ -44,21 +47,21 @@ pub record Passed (sheet : List ℕ) : Type 0 where
   pub few : length (programs_of sheet) ≤ max_programs
   pub fine : All (programs_of sheet)
 
-pub passed : (sheet : List ℕ) → Whole (programs_of sheet) → (sheet_refusal sheet).number ≡ 0 → Passed sheet
-unfolding sheet_refusal programs_refusal few_programs
-passed sheet w e =
+pub shows : (sheet : List ℕ) → Whole (programs_of sheet) → sheet_refusal sheet ≡ passed → Passed sheet
+unfolding programs_refusal few_programs
+shows sheet w e =
     let ps = programs_of sheet in
-    let l = none_fails (eqb (bad_line sheet) 0) refusal.line _ (λ z. omega arith) e in
-    let f = none_fails (few_programs ps) refusal.header _ (λ z. omega arith) l.1 in
-    let s = none_fails (short_programs ps) refusal.offsets _ (λ z. omega arith) f.1 in
-    let g = sym (programs_pass ps) ∙ eq-eqb (programs_fault ps).number 0 s.1 in
-    record { lines = eqb-true _ _ l.0; few = leb-true _ _ f.0; fine = all_fine ps w s.0 g }
+    let l = sheet_shown sheet e in
+    let f = none_fails (few_programs ps) Header _ l.1 in
+    let s = none_fails (short_programs ps) Offsets _ f.1 in
+    let g = sym (programs_pass ps) ∙ is_passed (passed_given Instruction (programs_fault ps) s.1) in
+    record { lines = l.0; few = leb-true _ _ f.0; fine = all_fine ps w s.0 g }
 
-pub enough : (sheet : List ℕ) → Passed sheet → (sheet_refusal sheet).number ≡ 0
+pub enough : (sheet : List ℕ) → Passed sheet → sheet_refusal sheet ≡ passed
 unfolding sheet_refusal programs_refusal few_programs
 enough sheet p =
     let ps = programs_of sheet in
-    let good : (programs_fault ps).number ≡ 0 = eqb-true _ _ (programs_pass ps ∙ all_good ps p.fine) in
-    number_of (sym (goes_on refusal.line (eq-eqb (bad_line sheet) 0 p.lines)
-    (goes_on refusal.header (le-leb (length ps) max_programs p.few) (goes_on refusal.offsets (all_short ps p.fine) refl))))
-    ∙ good
+    let good = passed_is (programs_fault ps) (programs_pass ps ∙ all_good ps p.fine) in
+    let programs_good : programs_refusal ps ≡ passed =
+    sym (goes_on Header (le-leb (length ps) max_programs p.few) (goes_on Offsets (all_short ps p.fine) (sym (given_passed Instruction good)))) in
+    sym (goes_on (BadLine (bad_line sheet)) (eq-eqb (bad_line sheet) 0 p.lines) (sym (given_passed as_image programs_good)))

@@ -3,6 +3,7 @@ use mathlib.Core.Path.{◌≡◌, sym, ap, ◌∙◌}
 use mathlib.Core.List.{List, [], ◌∷◌}
 use Prim.Native.Nat.{ℕ, ◌≤◌}
 use native.Mathlib.Omega.{arith}
+use Rattle.image.specs.Refusals.{passed}
 use Rattle.image.specs.Image.{rule_byte, refusal_of}
 use Rattle.image.proofs.Laws.{Accepted, accepted, few_programs_lem}
 use Rattle.writer.specs.Joined.{image_of}
@@ -15,7 +16,7 @@ use Rattle.sheet.proofs.Sheets.{WellPlaced, Typing, sheet_read, sheet_allowed, s
 use Rattle.from_sheet.specs.FromSheet.{programs_of, image_of_sheet, sheet_refusal}
 use Rattle.from_image.specs.FromImage.{lines_for, sheet_of_image}
 use Rattle.round_trip.specs.Bytes.{Bytes}
-use Rattle.round_trip.proofs.Checks.{Passed, passed, enough}
+use Rattle.round_trip.proofs.Checks.{Passed, shows, enough}
 use Rattle.round_trip.proofs.Places.{bytes_at, all_typable, lines_placed}
 use Rattle.round_trip.proofs.Programs.{Whole, programs_whole, programs_behind, rule_behind, lines_rule, lines_programs, lines_back}
 
@@ -34,7 +35,7 @@ all_whole : (ps : List (List ℕ)) → All ps → Whole ps
 all_whole [] h = tt
 all_whole (p ∷ ps) h = (h.0.whole_instructions, all_whole ps h.1)
 
-module _ (image : List ℕ) (bytes : Bytes image) (e : (refusal_of image).number ≡ 0) where
+module _ (image : List ℕ) (bytes : Bytes image) (e : refusal_of image ≡ passed) where
   good : Accepted image
   good = accepted image e
 
@@ -51,7 +52,7 @@ module _ (image : List ℕ) (bytes : Bytes image) (e : (refusal_of image).number
   unfolding sheet_of_image
   the_programs = says_programs lines placed ∙ lines_programs (rule_byte image) (all_of image) (all_whole (all_of image) fine)
 
-  pub its_sheet_passes : (sheet_refusal (sheet_of_image image)).number ≡ 0
+  pub its_sheet_passes : sheet_refusal (sheet_of_image image) ≡ passed
   unfolding sheet_of_image
   its_sheet_passes = enough (sheet_of_image image) (record {
     lines = sheet_allowed lines placed;
@@ -67,9 +68,9 @@ module _ (image : List ℕ) (bytes : Bytes image) (e : (refusal_of image).number
 
 -- ---- from a sheet to its image, and back
 
-module _ (sheet : List ℕ) (e : (sheet_refusal sheet).number ≡ 0) where
+module _ (sheet : List ℕ) (e : sheet_refusal sheet ≡ passed) where
   shown : Passed sheet
-  shown = passed sheet (programs_whole (lines_of sheet)) e
+  shown = shows sheet (programs_whole (lines_of sheet)) e
 
   typing : Typing sheet
   typing = sheet_back sheet shown.lines
@@ -86,7 +87,7 @@ module _ (sheet : List ℕ) (e : (sheet_refusal sheet).number ≡ 0) where
       let b = lines_back ls typing.placed in
       ((λ i. lines_for (r i) (p i)) ∙ b.0, rw r b.1)
 
-  pub its_image_passes : (refusal_of (image_of_sheet sheet)).number ≡ 0
+  pub its_image_passes : refusal_of (image_of_sheet sheet) ≡ passed
   unfolding image_of_sheet
   its_image_passes = image_good rule (programs_of sheet) shown.few shown.fine lines_are.1
 

@@ -1,4 +1,5 @@
 pub mod Parts
+pub mod Names
 pub mod ReadingLines
 pub mod Cases
 pub mod Lines

@@ -22,6 +22,11 @@ abbrev pub numbers_of_unwritten : Unwritten → TextNumbers
 numbers_of_unwritten (Refused r) = record { refusal = numbers_of r; length = 0; line = 0 }
 numbers_of_unwritten (BadLine k) = record { refusal = line; length = 0; line = k }
 
+-- of checks
+abbrev pub told_of_sheet : Result (Unit {0}) Unwritten → RefusalNumbers
+told_of_sheet (Ok done) = none
+told_of_sheet (Err r) = (numbers_of_unwritten r).refusal
+
 abbrev pub numbers_of_written : Result ℕ Unwritten → TextNumbers
 numbers_of_written (Ok n) = record { refusal = none; length = n; line = 0 }
 numbers_of_written (Err r) = numbers_of_unwritten r

@@ -1,4 +1,5 @@
 pub mod Split
 pub mod Sheet
+pub mod Reading
 pub mod Answers
 pub mod Opened

@@ -1,12 +1,11 @@
 -- Document 02, ask 1, "A sheet we can type": ""rule R", then for each program a line "program", then a line per instruction with its name and its three
 -- bytes in decimal, single spaces, no leading zeros, a newline after every line." Assumes nothing.
-use Rattle.std.specs.Prelude.{ℕ, zero, suc, ◌+◌, ◌≤◌, ◌≡◌, Bool, true, false, cond, ◌&&◌, List, [], ◌∷◌, ◌++◌, map, eqb, ltb, leb, length, get_or, take}
+use Rattle.std.specs.Prelude.{ℕ, zero, suc, Bool, true, false, cond, ◌&&◌, List, [], ◌∷◌, ◌++◌, map, eqb, ltb, leb, get_or}
 use Rattle.base.specs.Words.{least}
 use Rattle.text.specs.Ascii.{ascii}
 use Rattle.text.specs.Decimal.{is_number, value}
 use Rattle.text.specs.Filled.{filled}
 use Rattle.sheet.specs.declared.Instruction.{Instruction}
-use Rattle.sheet.specs.declared.Name.{Name}
 use Rattle.sheet.specs.declared.Line.{Line}
 use Rattle.sheet.specs.declared.Line.TheVariants as line
 use Rattle.sheet.specs.Split.{split, same}
@@ -31,11 +30,6 @@ operations = 9
 unfoldable pub name_of : ℕ → List ℕ
 name_of op = get_or names op []
 
--- a name as the code holds it: so many of its bytes
-pub record Named (op : ℕ) (n : Name) : Type 0 where
-  pub bytes_are : take n.length n.bytes ≡ name_of op
-  pub long : n.length ≤ length n.bytes
-
 -- what each line says, without its newline
 unfoldable pub line_text : Line → List ℕ
 line_text (line.Rule r) = filled (ascii "rule #") (r ∷ [])
@@ -56,10 +50,6 @@ operation_of word = least (λ op. same word (name_of op)) operations
 
 unfoldable pub is_up_to : (largest : ℕ) → List ℕ → Bool
 is_up_to largest word = is_number word && leb (value word) largest
-
--- such a number, or one more than the largest
-unfoldable pub up_to : (largest : ℕ) → List ℕ → ℕ
-up_to largest word = cond (is_up_to largest word) (value word) (largest + 1)
 
 unfoldable pub program_line : List ℕ → Line
 program_line word = cond (same word (ascii "program")) line.Program line.Other

@@ -1,14 +1,13 @@
 // A sheet: document 02, ask 1. What its lines say, and how they are read.
 #![tactic(auto)]
 
-ghost use Rattle.std.specs.Prelude.{◌≡◌, ◌+◌, ◌<◌, ◌≤◌, length, take};
-ghost use Rattle.sheet.specs.Sheet.{operations, name_of, Named};
+ghost use Rattle.std.specs.Prelude.{◌≡◌, ◌<◌};
+ghost use Rattle.sheet.specs.Sheet.{operations, name_of};
 
 mod reading;
 
-pub use reading::{line_of, part_end};
-
 use image::{ImageRefusal, Refusal};
+pub use reading::{line_of, part_end};
 
 // An instruction: its operation, a number from 0 to 8 that has a name, and its three bytes.
 #[derive(Clone, Copy)]
@@ -17,6 +16,17 @@ pub struct Instruction {
     pub a: u8,
     pub b: u8,
     pub c: u8,
+}
+
+impl Instruction {
+    ghost use Rattle.sheet.specs.Sheet.{bytes_of};
+
+    // As it stands in an image.
+    pub fn bytes(self) -> [u8; 4]
+        ensures { result ≡ bytes_of self }
+    {
+        [self.op, self.a, self.b, self.c]
+    }
 }
 
 // What a line says; any other line says nothing that a sheet can hold.
@@ -28,8 +38,8 @@ pub enum Line {
     Other,
 }
 
-// Why a call that reads a sheet or an image and writes the other writes nothing: as other calls, or for a line that its place does not allow, with its
-// number, from 1.
+// Why a call that reads a sheet or an image and writes the other writes nothing: as other calls, or for a line that its place does not allow, with
+// its number, from 1.
 #[derive(Clone, Copy, PartialEq, Eq)]
 pub enum Unwritten {
     Refused(Refusal),
@@ -57,60 +67,24 @@ impl From<ImageRefusal> for Unwritten {
     }
 }
 
-// How many operations have a name.
-pub const OPERATIONS: usize = 9;
+// The names of the operations, each in the place of its number: document 01, "Instructions".
+static NAMES: [&[u8]; 9] = [
+    b"end",
+    b"set",
+    b"load",
+    b"store",
+    b"add",
+    b"sub",
+    b"skipless",
+    b"skipequal",
+    b"reject",
+];
 
-// The bytes of the longest name, and so of any.
-pub const NAME_BYTES: usize = 9;
-
-// A name: so many of these bytes.
-#[derive(Clone, Copy)]
-pub struct Name {
-    pub bytes: [u8; NAME_BYTES],
-    pub length: usize,
-}
-
-// The name of an operation, which has one: document 01, "Instructions".
-pub fn name_of(op: usize) -> Name
+// The name of an operation, which has one.
+#[tactic(auto, unfolding(crate::specs::Sheet::name_of, crate::specs::Sheet::names))]
+pub fn name_of(op: u8) -> &'static [u8]
     requires { op < operations }
-    ensures { Named op result }
+    ensures { result.now ≡ name_of op }
 {
-    match op {
-        0 => Name {
-            bytes: *b"end      ",
-            length: 3,
-        },
-        1 => Name {
-            bytes: *b"set      ",
-            length: 3,
-        },
-        2 => Name {
-            bytes: *b"load     ",
-            length: 4,
-        },
-        3 => Name {
-            bytes: *b"store    ",
-            length: 5,
-        },
-        4 => Name {
-            bytes: *b"add      ",
-            length: 3,
-        },
-        5 => Name {
-            bytes: *b"sub      ",
-            length: 3,
-        },
-        6 => Name {
-            bytes: *b"skipless ",
-            length: 8,
-        },
-        7 => Name {
-            bytes: *b"skipequal",
-            length: 9,
-        },
-        _ => Name {
-            bytes: *b"reject   ",
-            length: 6,
-        },
-    }
+    NAMES[op as usize]
 }

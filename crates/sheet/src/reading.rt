@@ -1,86 +1,49 @@
 // How a line is read: cut into words at its spaces.
 ghost use Rattle.std.specs.Prelude.{◌≡◌, ◌+◌, ◌<◌, ◌≤◌, length};
-ghost use Rattle.sheet.specs.Split.{same, Ends};
-ghost use Rattle.sheet.specs.Sheet.{operations, name_of, operation_of, up_to, program_line, rule_line, instruction_line, line_of};
+ghost use Rattle.sheet.specs.Split.{Ends};
+ghost use Rattle.sheet.specs.Sheet.{program_line, rule_line, instruction_line, line_of};
+ghost use Rattle.sheet.specs.Reading.{named, numbered, line_for};
 
-use crate::{Instruction, Line, OPERATIONS};
+use crate::{Instruction, Line, NAMES};
 
 const SPACE: u8 = b' ';
 
-const LARGEST_RULE: u32 = 2;
-
-const LARGEST_BYTE: u32 = 255;
+const LARGEST_RULE: u8 = 2;
 
 // Where the part of a text ends that begins at a place: at the next separator, or with the text.
 pub fn part_end(text: &[u8], at: usize, separator: u8) -> usize
     requires { at ≤ length text.now }
     ensures { Ends separator text.now at result }
 {
-    let mut end = at;
-    while end < text.len() {
-        if text[end] == separator {
-            return end;
-        }
-        end += 1;
+    match text[at..].iter().position(|byte| *byte == separator) {
+        Some(before) => at + before,
+        None => text.len(),
     }
-    end
 }
 
-// Whether two texts are equal.
-fn same(a: &[u8], b: &[u8]) -> bool
-    ensures { result ≡ same a.now b.now }
+// The operation that a word is the name of.
+fn operation_of(word: &[u8]) -> Option<u8>
+    ensures { result ≡ named word.now }
 {
-    if a.len() != b.len() {
-        return false;
-    }
-    for k in 0..a.len() {
-        if a[k] != b[k] {
-            return false;
-        }
-    }
-    true
+    let op = NAMES.iter().position(|name| word == *name)?;
+    Some(op as u8)
 }
 
-// Whether a word is the name of an operation.
-fn is_name(word: &[u8], op: usize) -> bool
-    requires { op < operations }
-    ensures { result ≡ same word.now (name_of op) }
+// The number that a word is, up to a largest one.
+#[tactic(auto, unfolding(crate::specs::Reading::numbered, crate::specs::Sheet::is_up_to, text::specs::Decimal::numeral))]
+fn up_to(largest: u8, word: &[u8]) -> Option<u8>
+    ensures { result ≡ numbered largest word.now }
 {
-    let name = crate::name_of(op);
-    let bytes = name.bytes;
-    let length = name.length;
-    same(word, &bytes[0..length])
-}
-
-// The operation that a word is the name of, or 9.
-fn operation_of(word: &[u8]) -> usize
-    ensures { result ≡ operation_of word.now }
-{
-    for op in 0..OPERATIONS {
-        if is_name(word, op) {
-            return op;
-        }
-    }
-    OPERATIONS
-}
-
-// The number that a word is, up to a largest one, and otherwise one more than that.
-fn up_to(largest: u32, word: &[u8]) -> u32
-    requires { largest < 256 }
-    ensures { (result ≡ up_to largest word.now) × (result ≤ largest + 1) }
-{
-    match text::number_of(word, largest) {
-        text::Numeral::Number(number) => number,
-        text::Numeral::TooLarge => largest + 1,
-        text::Numeral::NoNumber => largest + 1,
-    }
+    let number = text::number_of(word, largest as u32).ok()?;
+    Some(number as u8)
 }
 
 // A line of one word.
+#[tactic(auto, using(crate::proofs::Names::same_bytes), unfolding(crate::specs::Sheet::program_line))]
 fn program_line(word: &[u8]) -> Line
     ensures { result ≡ program_line word.now }
 {
-    if same(word, b"program") {
+    if word == b"program".as_slice() {
         Line::Program
     } else {
         Line::Other
@@ -88,45 +51,34 @@ fn program_line(word: &[u8]) -> Line
 }
 
 // A line of two words.
+#[tactic(auto, using(crate::proofs::Names::same_bytes), unfolding(crate::specs::Sheet::rule_line, crate::specs::Reading::numbered))]
 fn rule_line(word: &[u8], r: &[u8]) -> Line
     ensures { result ≡ rule_line word.now r.now }
 {
-    if !same(word, b"rule") {
+    if word != b"rule".as_slice() {
         return Line::Other;
     }
-    let rule = up_to(LARGEST_RULE, r);
-    if LARGEST_RULE < rule {
-        return Line::Other;
-    }
-    Line::Rule(rule as u8)
+    up_to(LARGEST_RULE, r).map_or(Line::Other, Line::Rule)
+}
+
+// The instruction that four words are.
+#[tactic(auto, unfolding(crate::specs::Sheet::instruction_line, crate::specs::Reading::named, crate::specs::Reading::numbered))]
+fn instruction_of(word: &[u8], a: &[u8], b: &[u8], c: &[u8]) -> Option<Instruction>
+    ensures { line_for result ≡ instruction_line word.now a.now b.now c.now }
+{
+    Some(Instruction {
+        op: operation_of(word)?,
+        a: up_to(u8::MAX, a)?,
+        b: up_to(u8::MAX, b)?,
+        c: up_to(u8::MAX, c)?,
+    })
 }
 
 // A line of four words.
 fn instruction_line(word: &[u8], a: &[u8], b: &[u8], c: &[u8]) -> Line
     ensures { result ≡ instruction_line word.now a.now b.now c.now }
 {
-    let op = operation_of(word);
-    if OPERATIONS <= op {
-        return Line::Other;
-    }
-    let x = up_to(LARGEST_BYTE, a);
-    let y = up_to(LARGEST_BYTE, b);
-    let z = up_to(LARGEST_BYTE, c);
-    if LARGEST_BYTE < x {
-        return Line::Other;
-    }
-    if LARGEST_BYTE < y {
-        return Line::Other;
-    }
-    if LARGEST_BYTE < z {
-        return Line::Other;
-    }
-    Line::Instruction(Instruction {
-        op: op as u8,
-        a: x as u8,
-        b: y as u8,
-        c: z as u8,
-    })
+    instruction_of(word, a, b, c).map_or(Line::Other, Line::Instruction)
 }
 
 // What a line says, its newline apart.
@@ -135,11 +87,11 @@ pub fn line_of(text: &[u8]) -> Line
 {
     let first = part_end(text, 0, SPACE);
     if first == text.len() {
-        return program_line(&text[0..first]);
+        return program_line(&text[..first]);
     }
     let second = part_end(text, first + 1, SPACE);
     if second == text.len() {
-        return rule_line(&text[0..first], &text[first + 1..second]);
+        return rule_line(&text[..first], &text[first + 1..second]);
     }
     let third = part_end(text, second + 1, SPACE);
     if third == text.len() {
@@ -150,7 +102,7 @@ pub fn line_of(text: &[u8]) -> Line
         return Line::Other;
     }
     instruction_line(
-        &text[0..first],
+        &text[..first],
         &text[first + 1..second],
         &text[second + 1..third],
         &text[third + 1..fourth],

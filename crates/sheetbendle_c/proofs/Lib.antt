@@ -1,3 +1,3 @@
-pub mod Tells
+pub mod Small
 pub mod Unique
 pub mod Cases

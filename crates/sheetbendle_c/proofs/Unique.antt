@@ -1,17 +1,16 @@
--- No second result: for each call for C, two outcomes that meet its contract at the same arguments look the same, the lent memory at the exit included.
--- Assumes nothing.
+-- No second result: for each call for C, two outcomes that meet its contract at the same arguments look the same, the lent memory at the exit
+-- included. Assumes nothing.
 use mathlib.Core.List.{List}
 use Prim.Native.Nat.{ℕ}
 use mathlib.Core.Path.{◌≡◌, sym, ◌∙◌}
 use Rattle.base.specs.Unique.{Unique}
-use Rattle.image.specs.declared.Refusal.{Refusal}
-use Rattle.image.specs.Refusals.{Counted}
-use Rattle.numbers.proofs.Unique.{told_once, cause_once}
+use Rattle.image.specs.declared.refusals.RefusalNumbers.{RefusalNumbers}
+use Rattle.numbers.proofs.Unique.{told_once, cause_once, count_once}
 use Rattle.numbers.specs.declared.StepNumbers.{StepNumbers}
 use Rattle.numbers.specs.declared.CauseNumbers.{CauseNumbers}
+use Rattle.numbers.specs.declared.CountNumbers.{CountNumbers}
 use Rattle.sheetbendle_c.specs.declared.PartNumbers.{PartNumbers}
-use Rattle.sheetbendle_c.specs.declared.CountNumbers.{CountNumbers}
-use Rattle.sheetbendle_c.specs.Calls.{PartTells, CountTells}
+use Rattle.sheetbendle_c.specs.Calls.{PartTells}
 use Rattle.sheetbendle_c.proofs.sheetbendle_program.Kinds as program_kinds
 use Rattle.sheetbendle_c.proofs.sheetbendle_program.Reads as program
 use Rattle.sheetbendle_c.proofs.sheetbendle_program_refusal.Kinds as program_refusal_kinds
@@ -40,9 +39,6 @@ use Rattle.sheetbendle_c.proofs.sheetbendle_sheet_of.Reads as sheet_of
 part_once : (image : List ℕ) (k : ℕ) (x y : PartNumbers) → PartTells image k x → PartTells image k y → x ≡ y
 part_once image k x y p q = λ i. record { start = (p.start ∙ sym q.start) i; length = (p.extent ∙ sym q.extent) i }
 
-count_once : (n : Counted) (x y : CountNumbers) → CountTells n x → CountTells n y → x ≡ y
-count_once n x y p q = λ i. record { refusal = (p.refusal ∙ sym q.refusal) i; count = (p.count ∙ sym q.count) i }
-
 text_once : (n : TextNumbers) (x y : declared.TextNumbers) → TextTells n x → TextTells n y → x ≡ y
 text_once n x y p q =
     λ i. record { refusal = (p.refusal ∙ sym q.refusal) i; length = (p.extent ∙ sym q.extent) i; line = (p.line ∙ sym q.line) i }
@@ -50,10 +46,10 @@ text_once n x y p q =
 pub program_unique : Unique {A = PartNumbers} 1 program_kinds.ps program_kinds.r (λ κs x s. x) program.Post
 program_unique κs a x y s t p q = part_once _ _ x y p q
 
-pub program_refusal_unique : Unique {A = Refusal} 1 program_refusal_kinds.ps program_refusal_kinds.r (λ κs x s. x) program_refusal.Post
+pub program_refusal_unique : Unique {A = RefusalNumbers} 1 program_refusal_kinds.ps program_refusal_kinds.r (λ κs x s. x) program_refusal.Post
 program_refusal_unique κs a x y s t p q = cc
 
-pub open_unique : Unique {A = Refusal × List ℕ} 4 open_kinds.ps open_kinds.r (λ κs x s. (x, s.1.1.1.0.now)) opening.Post
+pub open_unique : Unique {A = RefusalNumbers × List ℕ} 4 open_kinds.ps open_kinds.r (λ κs x s. (x, s.1.1.1.0.now)) opening.Post
 open_unique κs a x y s t p q = cc
 
 pub gather_unique : Unique {A = StepNumbers × List ℕ} 4 gather_kinds.ps gather_kinds.r (λ κs x s. (x, s.1.1.1.0.now)) gather.Post

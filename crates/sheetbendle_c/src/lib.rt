@@ -3,7 +3,7 @@
 
 ghost use Rattle.std.specs.Prelude.{◌≡◌, ◌^◌, ◌<◌};
 ghost use Rattle.sheetbendle_c.specs.Calls.{PartTells, ProgramRefusalTells, OpenTells, GatherTells, SettleTells};
-ghost use Rattle.sheetbendle_c.specs.Calls.{WhyTells, CountTells, OrderTells, NextTells};
+ghost use Rattle.sheetbendle_c.specs.Calls.{WhyTells, OrderTells, NextTells};
 ghost use Rattle.sheet.specs.Answers.{numbers_of_written};
 ghost use Rattle.sheetbendle_c.specs.Calls.{line_shown, TextTells, ImageOfTells, SheetOfTells};
 
@@ -95,6 +95,7 @@ pub extern "C" fn sheetbendle_why(
 }
 
 #[unsafe(no_mangle)]
+#[tactic(auto, using(crate::proofs::Small::order_small))]
 pub extern "C" fn sheetbendle_order(
     image: &[u8],
     table: &[u32],
@@ -108,6 +109,7 @@ pub extern "C" fn sheetbendle_order(
 }
 
 #[unsafe(no_mangle)]
+#[tactic(auto, using(crate::proofs::Small::next_small))]
 pub extern "C" fn sheetbendle_next_image(
     image: &[u8],
     table: &[u32],
@@ -153,6 +155,7 @@ fn of_written(answer: Result<usize, Unwritten>) -> TextNumbers
 }
 
 #[unsafe(no_mangle)]
+#[tactic(auto, using(from_sheet::proofs::Says::image_small))]
 pub extern "C" fn sheetbendle_image_of(sheet: &[u8], out: &mut [u8]) -> TextNumbers
     ensures { ImageOfTells sheet.now out.old result out.new }
 {
@@ -160,6 +163,7 @@ pub extern "C" fn sheetbendle_image_of(sheet: &[u8], out: &mut [u8]) -> TextNumb
 }
 
 #[unsafe(no_mangle)]
+#[tactic(auto, using(crate::proofs::Small::sheet_of_small))]
 pub extern "C" fn sheetbendle_sheet_of(image: &[u8], out: &mut [u8]) -> TextNumbers
     ensures { SheetOfTells image.now out.old result out.new }
 {

@@ -5,6 +5,7 @@ use mathlib.Core.Path.{◌≡◌, refl}
 use mathlib.Core.List.{List, [], ◌∷◌, ◌++◌, map}
 use lib.ListN.{length, take, drop, replicate}
 use Rattle.base.specs.Masks.{has_bit}
+use Rattle.image.specs.Refusals.{passed}
 use Rattle.image.specs.Image.{refusal_of}
 use Rattle.image.specs.Assembler.{program, fields, image, set, store}
 use Rattle.writer.specs.Joined.{number, joined, ends, image_of}
@@ -44,7 +45,7 @@ full = image_of 2 (replicate 64 (program (replicate 32 (set 7 65535))))
 largest : (length full ≡ 8326)
     × (take 8 full ≡ 64 ∷ 0 ∷ 2 ∷ 0 ∷ 134 ∷ 0 ∷ 6 ∷ 1 ∷ [])
     × (take 6 (drop 132 full) ≡ 134 ∷ 32 ∷ 1 ∷ 7 ∷ 255 ∷ 255 ∷ [])
-    × ((refusal_of full).number ≡ 0)
+    × (refusal_of full ≡ passed)
 unfolding opened
 largest = (refl, refl, refl, refl)
 

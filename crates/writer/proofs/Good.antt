@@ -13,10 +13,10 @@ use Rattle.base.specs.Words.{every, words}
 use Rattle.base.proofs.Bools.{both_and}
 use Rattle.base.proofs.Numbers.{every_from}
 use Rattle.image.specs.Limits.{max_programs, instruction_bytes, max_program_bytes, head_bytes, min_bytes, max_bytes}
+use Rattle.image.specs.Refusals.{passed}
 use Rattle.image.specs.Instruction.{program_good}
 use Rattle.image.specs.Image.{byte_at, number_at, count_of, rule_byte, offset_of, bytes_of, part_of}
 use Rattle.image.specs.Image.{size_good, header_good, header_of, rises, whole, short, extent_good, extents_good, holds_offsets, first_good, last_good, offsets_good, code_good, refusal_of}
-use Rattle.image.proofs.Refusing.{number_of}
 use Rattle.image.proofs.Laws.{accepted_is}
 use Rattle.writer.specs.Joined.{number, joined, ends, offsets, image_of}
 use Rattle.writer.specs.Picked.{picked, all_of}
@@ -182,8 +182,8 @@ module _ (rule : ℕ) (xs : List (List ℕ)) (few : length xs ≤ max_programs) 
       every_from (count_of (image_of rule xs)) (λ p. program_good (part_of (image_of rule xs) p))
       (λ i l. let h : i < length xs = omega (arith, image_count) in ap program_good (image_part i h) ∙ (all_at xs i fine h).code)
 
-  pub image_good : rule ≤ 2 → (refusal_of (image_of rule xs)).number ≡ 0
-  image_good h = number_of (sym (accepted_is (image_of rule xs) (record { size = size_good_lem; header = header_good_lem h; offsets = offsets_good_lem; code = code_good_lem })))
+  pub image_good : rule ≤ 2 → refusal_of (image_of rule xs) ≡ passed
+  image_good h = sym (accepted_is (image_of rule xs) (record { size = size_good_lem; header = header_good_lem h; offsets = offsets_good_lem; code = code_good_lem }))
 
   -- its programs are xs, in their order
   pub image_programs : all_of (image_of rule xs) ≡ xs

@@ -17,6 +17,7 @@ use Rattle.text.specs.declared.page.Page.{Page}
 use Rattle.text.specs.Paper.{Put, Fits}
 use Rattle.text.proofs.Pages.{put_more}
 use Rattle.image.specs.Limits.{max_program_bytes, head_bytes}
+use Rattle.image.specs.Refusals.{passed}
 use Rattle.image.specs.Image.{count_of, part_of, refusal_of}
 use Rattle.image.proofs.Laws.{lies, lies_short, accepted, few_programs_lem}
 use Rattle.writer.specs.Joined.{number, joined, ends, offsets, image_of}
@@ -166,7 +167,7 @@ picked_ext p q image (suc n) h = rw (picked_ext p q image n (λ k l. h k (omega 
 -- ---- a source
 
 -- the programs of a good image, whichever the mask has
-pub good_source : (image : List ℕ) → (refusal_of image).number ≡ 0 → (n : ℕ) → n ≡ count_of image → (mask : ℕ) → Source image n mask
+pub good_source : (image : List ℕ) → refusal_of image ≡ passed → (n : ℕ) → n ≡ count_of image → (mask : ℕ) → Source image n mask
 good_source image good n e mask =
     let g = accepted image good in
     record { few = omega (arith, few_programs_lem image g.header); lies = λ k l b. lies image g.offsets k (omega arith) }

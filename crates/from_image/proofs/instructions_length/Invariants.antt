@@ -8,4 +8,4 @@ use Rattle.from_image.proofs.Sheets.{instruction_text}
 use Rattle.from_image.proofs.instructions_length.Given as goal
 
 abbrev pub invariant-loop-i : goal.invariant-loop-i
-invariant-loop-i l = (l.i ≤ l.m) × (l.size ≡ length (texts (instruction_text l.program) l.i)) × (l.size ≤ most_line * l.i)
+invariant-loop-i l = (l.size ≡ length (texts (instruction_text l.program) l.i)) × (l.size ≤ most_line * l.i)

@@ -8,4 +8,4 @@ use Rattle.from_image.proofs.Sheets.{program_text}
 use Rattle.from_image.proofs.programs_length.Given as goal
 
 abbrev pub invariant-loop-k : goal.invariant-loop-k
-invariant-loop-k l = (l.k ≤ l.n) × (l.size ≡ length (texts (program_text l.image) l.k)) × (l.size ≤ most_lines * l.k)
+invariant-loop-k l = (l.size ≡ length (texts (program_text l.image) l.k)) × (l.size ≤ most_lines * l.k)

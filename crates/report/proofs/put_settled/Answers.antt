@@ -1,18 +1,21 @@
--- The table that is read is the one that the batch was opened on. Assumes nothing.
-use Rattle.std.proofs.Common.{◌≡◌, ℕ, ◌-◌, List, length, take, ap, subst, ◌∙◌, arith}
+-- The table that is read is the one that the batch was opened on, and its page is short: bytes have 8 bits and words 32. Assumes nothing.
+use mathlib.Core.Path.{◌≡◌, ap, ◌∙◌}
+use Prim.Native.Nat.{ℕ}
+use native.Mathlib.Omega.{arith}
+use borrow.Author.Rules.{rules}
+use lib.ListN.{length}
 use lib.Seq.{length-take-le}
-use Rattle.text.specs.Writing.{Wrote}
 use Rattle.input.specs.Prefix.{table_in}
-use Rattle.report.specs.Batch.{page_text}
+use Rattle.reasons.specs.Reasons.{CanTell}
+use Rattle.report.proofs.Pages.{wanted_short}
 use Rattle.report.proofs.put_settled.Goals as goal
 
-pub returns : goal.returns
-returns c =
+pub put_page-requires : goal.put_page-requires
+put_page-requires c =
     let a = c.args in
-    let T = length a.table.now in
-    let all : T - 0 ≡ T = omega arith in
-    let part_length : length (take (T - 0) c.table_room-room.result) ≡ T =
-    rw all (length-take-le T c.table_room-room.result (omega (arith, c.requires.1.measured.cells_few, c.table_room-room.ensures))) in
-    let opening_is : c.read_cells.new.table ≡ table_in a.input.now T = c.read_cells.ensures ∙ ap (λ (n : ℕ). table_in a.input.now n) part_length in
-    subst (λ (x : List ℕ). Wrote a.out.now 0 (page_text a.page a.image.now x a.table.now a.guards.now a.area.now) c.put_page.new.out c.put_page.result)
-    opening_is c.put_page.ensures
+    let opening = c.read_cells.new.table in
+    let read : opening ≡ table_in a.input.now (length a.table.now) =
+    c.read_cells.ensures ∙ ap (λ (n : ℕ). table_in a.input.now n) (length-take-le _ _ (omega (arith, c.requires.1.measured.cells_few))) in
+    let tell : CanTell a.image.now opening a.table.now a.guards.now a.area.now = rw read c.requires.1 in
+    let short = wanted_short a.wanted tell (λ i. search rules) (λ i. search rules) (λ i. search rules) (λ i. search rules) (λ i. search rules) in
+    (tell, record { fits = omega (arith, short, c.requires.2, ap length c.new-page.ensures.same) })

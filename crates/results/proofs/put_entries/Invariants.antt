@@ -1,11 +1,8 @@
--- The loop's invariant: the entries below i stand there. Assumes nothing.
-use mathlib.Core.Path.{◌≡◌}
-use Prim.Native.Nat.{◌≤◌}
-use lib.ListN.{length}
+-- The entries up to this place are put. Assumes nothing.
 use Rattle.text.specs.Filled.{texts}
-use Rattle.text.specs.Writing.{Wrote}
+use Rattle.text.specs.Paper.{Put}
 use Rattle.results.specs.Listing.{order_entry}
 use Rattle.results.proofs.put_entries.Given as goal
 
-abbrev pub invariant-loop-i : goal.invariant-loop-i
-invariant-loop-i l = (l.i ≤ l.n) × (l.n ≡ length l.order) × Wrote l.initial.out l.at (texts (order_entry l.order) l.i) l.out l.next
+abbrev pub invariant-loop-program : goal.invariant-loop-program
+invariant-loop-program l = Put l.fn.page (texts (order_entry l.order) l.program-index) l.page

@@ -1,28 +1,35 @@
--- The loop's invariant: so many lines are behind, and so many that begin a program are still to come. Assumes nothing.
+-- A line more: it begins a program, or not; the last that does is the one that is looked for. Assumes nothing.
+use mathlib.Core.Path.{◌≡◌, sym, ap, ◌∙◌}
+use mathlib.Core.Bool.{true, false}
+use Prim.Native.Nat.{◌+◌, ◌-◌}
 use native.Mathlib.Omega.{arith}
-use borrow.Author.Rules.{rules}
-use Rattle.from_sheet.proofs.Searching.{search_start, search_next, search_there, search_end}
+use lib.ListN.{length}
+use Rattle.from_sheet.specs.WrongLines.{begins}
+use Rattle.from_sheet.proofs.Searching.{search_program, search_other, search_there, search_end}
 use Rattle.from_sheet.proofs.finding.beginning_of.Goals as goal
 
-pub loop-left-init : goal.loop-left-init
-loop-left-init c = (search rules, search rules, search_start _ _ c.requires.0)
+pub returns-then-left-eq0 : goal.returns-then-left-eq0
+returns-then-left-eq0 c =
+    let i = c.loop-line.invariant in
+    let steps = c.in-Some.ensures.steps in
+    let e : begins c.in-Some.line ≡ true = sym c.begins.ensures ∙ c.if-begins.true in
+    let s = search_end (search_program 0 e (rw (steps, c.if-left-eq0.true) at i.1)) in
+    record { line_is = s.0; line_few = omega (arith, i.0, ap length steps); program_is = s.1 }
 
-pub next_line-found-requires : goal.next_line-found-requires
-next_line-found-requires c = search_there c.args.sheet.now _ c.loop-left.invariant.2 (search rules)
+pub loop-line-preserved-then-begins : goal.loop-line-preserved-then-begins
+loop-line-preserved-then-begins c =
+    let i = c.loop-line.invariant in
+    let steps = c.in-Some.ensures.steps in
+    let e : begins c.in-Some.line ≡ true = sym c.begins.ensures ∙ c.if-begins.true in
+    let one : c.loop-line.left - 1 + 1 ≡ c.loop-line.left = omega arith in
+    (omega (arith, i.0, ap length steps), rw one (search_program c.loop-line.left e (rw steps at i.1)))
 
-pub loop-left-smaller : goal.loop-left-smaller
-loop-left-smaller c = omega (arith, c.next_line-found.ensures.on)
-
-pub loop-left-preserved : goal.loop-left-preserved
-loop-left-preserved c =
-    let found = c.next_line-found.ensures in (
-      found.within,
-      omega (arith, c.loop-left.invariant.1, found.on),
-      rw c.left_behind-left.ensures (search_next _ _ c.loop-left.left (search rules) (rw found.lines at c.loop-left.invariant.2)),
-    )
+pub loop-line-preserved : goal.loop-line-preserved
+loop-line-preserved c =
+    let i = c.loop-line.invariant in
+    let steps = c.in-Some.ensures.steps in
+    let e : begins c.in-Some.line ≡ false = sym c.begins.ensures ∙ c.if-begins.false in
+    (omega (arith, i.0, ap length steps), search_other c.loop-line.left e (rw steps at i.1))
 
 pub returns : goal.returns
-returns c =
-    let i = c.loop-left.invariant in
-    let e = search_end (search rules) i.2 in
-    record { line_is = e.0; line_few = omega (arith, i.0, i.1); program_is = e.1 }
+returns c = absurd (search_there c.loop-line.left (rw c.in_default.ensures.steps.0 at c.loop-line.invariant.1))

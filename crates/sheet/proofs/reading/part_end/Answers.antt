@@ -1,22 +1,23 @@
--- The loop's invariant: nothing from the place on is a separator before `end`. Assumes nothing.
-use native.Mathlib.Omega.{arith}
-use Rattle.sheet.proofs.Parts.{seeks_none, seeks_more, seeks_here, seeks_end}
+-- The place of the first separator, if there is one. Assumes nothing.
+use mathlib.Core.Path.{◌≡◌, sym, ◌∙◌}
+use borrow.Author.Rules.{rules}
+use borrow.Author.Tests.{tests}
+use lib.Dec.{eqb}
+use lib.ListN.{drop}
+use Rattle.std.specs.Prelude.{position}
+use Rattle.std.proofs.lemmas.Iterator.{YieldsList-from_slice}
+use Rattle.std.proofs.lemmas.Iterator.Search.{position_from_yields_List}
+use Rattle.sheet.proofs.Parts.{rest_whole, ends_found, ends_last}
 use Rattle.sheet.proofs.reading.part_end.Goals as goal
+use Rattle.sheet.proofs.reading.part_end.Goals.{After-position}
 
-pub loop-end-init : goal.loop-end-init
-loop-end-init c = let a = c.args in seeks_none a.separator a.text.now a.at c.requires
+found : (c : After-position) → c.position.result ≡ position (λ x. eqb x c.args.separator) (drop c.args.at c.args.text.now)
+found c =
+    position_from_yields_List (λ x. eqb x c.args.separator) _ _ _ c.position.ensures.ran
+    (YieldsList-from_slice (drop c.args.at c.args.text.now) (c.iter.ensures.rest ∙ rest_whole c.args.text.now c.args.at)) (λ x b q k. search (rules, tests))
 
-pub returns-then-text-end : goal.returns-then-text-end
-returns-then-text-end c =
-    let a = c.args in
-    seeks_here a.separator a.text.now a.at c.loop-end.end c.loop-end.invariant (omega arith) c.if-text-end.true
+pub returns-in-Some : goal.returns-in-Some
+returns-in-Some c = ends_found _ _ _ c.requires (sym (found (goal.at.returns-in-Some c).After-position) ∙ c.in-Some.is)
 
-pub loop-end-preserved : goal.loop-end-preserved
-loop-end-preserved c =
-    let a = c.args in
-    seeks_more a.separator a.text.now a.at c.loop-end.end c.loop-end.invariant (omega arith) c.if-text-end.false
-
-pub returns : goal.returns
-returns c =
-    let a = c.args in
-    seeks_end a.separator a.text.now a.at c.loop-end.end c.loop-end.invariant (omega arith)
+pub returns-in-None : goal.returns-in-None
+returns-in-None c = ends_last _ _ _ c.requires (sym (found (goal.at.returns-in-None c).After-position) ∙ c.in-None.is)
