@@ -15,15 +15,15 @@ use Rattle.std.proofs.lemmas.List.Elements.{All-from_get_or}
 use Rattle.base.specs.Words.{has, meets, words}
 use Rattle.base.specs.Masks.{word_bits, has_bit, mask_of}
 use Rattle.base.proofs.Bools.{known, clash}
-use Rattle.base.proofs.Masks.{mask_lt, mask_start, mask_next, mask_ext, mask_none, or_masks, bit_set, shifted_byte, bits_in}
+use Rattle.base.proofs.Masks.{mask_lt, mask_start, mask_next, mask_ext, mask_none, or_masks, bit_set, bits_in}
 use Rattle.image.specs.Limits.{max_programs, max_cells}
 use Rattle.slot.specs.declared.ListKind.{ListKind}
-use Rattle.slot.specs.declared.ListKind.TheVariants.{Reads, Stores}
+use Rattle.slot.specs.declared.ListKind.TheVariants.{Stores}
 use Rattle.slot.specs.declared.Group.TheVariants.{Committed}
 use Rattle.area.specs.Layout.{count_at, in_group, list_of, stores_of}
 use Rattle.area.specs.Checks.{Slotted}
 use Rattle.listing.specs.Masks.{Out, Slots, CommittedSet}
-use Rattle.listing.specs.Readers.{octet_size, with_bits, bits_for, committed_reads, reads_stored, Octet, ReadersOf, SetIn, Added, Blockers}
+use Rattle.listing.specs.Readers.{with_bits, bits_for, committed_reads, reads_stored, Octet, ReadersOf, SetIn, Added, Blockers}
 use Rattle.listing.proofs.Taken.{without_is, without_else}
 use Rattle.listing.proofs.Masks.{bit_below, none_in}
 
