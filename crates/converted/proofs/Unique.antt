@@ -1,14 +1,8 @@
 -- No second result: for each call, two outcomes that meet its contract at the same arguments look the same. Assumes nothing.
-use mathlib.Core.Path.{sym, ◌∙◌}
 use mathlib.Core.List.{List}
 use Prim.Native.Nat.{ℕ}
 use Rattle.base.specs.Unique.{Unique}
-use Rattle.converted.proofs.input_room.Kinds as input_room_kinds
-use Rattle.converted.proofs.input_room.Reads as input_room
-use Rattle.converted.proofs.image_room.Kinds as image_room_kinds
-use Rattle.converted.proofs.image_room.Reads as image_room
-use Rattle.converted.proofs.sheet_room.Kinds as sheet_room_kinds
-use Rattle.converted.proofs.sheet_room.Reads as sheet_room
+use Rattle.text.proofs.Pages.{page_same}
 use Rattle.converted.proofs.image_page.Kinds as image_page_kinds
 use Rattle.converted.proofs.image_page.Reads as image_page
 use Rattle.converted.proofs.sheet_page.Kinds as sheet_page_kinds
@@ -18,19 +12,10 @@ use Rattle.converted.proofs.sheet_said.Reads as sheet_said
 
 -- how many bytes are the page, and what the output holds at the exit
 pub image_page_unique : Unique {A = ℕ × List ℕ} 2 image_page_kinds.ps image_page_kinds.r (λ κs x s. (x, s.1.0.now)) image_page.Post
-image_page_unique κs a x y s t p q = cc
+image_page_unique κs a x y s t p q = page_same p q
 
 pub sheet_page_unique : Unique {A = ℕ × List ℕ} 2 sheet_page_kinds.ps sheet_page_kinds.r (λ κs x s. (x, s.1.0.now)) sheet_page.Post
-sheet_page_unique κs a x y s t p q = cc
+sheet_page_unique κs a x y s t p q = page_same p q
 
 pub sheet_said_unique : Unique {A = ℕ × List ℕ} 2 sheet_said_kinds.ps sheet_said_kinds.r (λ κs x s. (x, s.1.0.now)) sheet_said.Post
-sheet_said_unique κs a x y s t p q = cc
-
-pub input_room_unique : Unique 0 input_room_kinds.ps input_room_kinds.r (λ κs x s. x) input_room.Post
-input_room_unique κs a x y s t p q = p.1 ∙ sym q.1
-
-pub image_room_unique : Unique 0 image_room_kinds.ps image_room_kinds.r (λ κs x s. x) image_room.Post
-image_room_unique κs a x y s t p q = p.1 ∙ sym q.1
-
-pub sheet_room_unique : Unique 0 sheet_room_kinds.ps sheet_room_kinds.r (λ κs x s. x) sheet_room.Post
-sheet_room_unique κs a x y s t p q = p.1 ∙ sym q.1
+sheet_said_unique κs a x y s t p q = page_same p q

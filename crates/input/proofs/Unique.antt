@@ -17,7 +17,7 @@ use Rattle.input.proofs.image_behind.Kinds as image_behind_kinds
 use Rattle.input.proofs.image_behind.Reads as image_behind
 
 pub cells_of_unique : Unique 1 cells_of_kinds.ps cells_of_kinds.r (λ κs x s. x) Cells-of.Post
-cells_of_unique κs a x y s t p q = p ∙ sym q
+cells_of_unique κs a x y s t p q = p.0 ∙ sym q.0
 
 -- the table at the exit
 pub read_cells_unique : Unique {A = List ℕ} 2 read_cells_kinds.ps read_cells_kinds.r (λ κs x s. s.1.0.now) read_cells.Post

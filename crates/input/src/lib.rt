@@ -2,7 +2,7 @@
 // of them before the image. It is read from standard input, and taken apart.
 #![tactic(auto)]
 
-ghost use Rattle.std.specs.Prelude.{◌≡◌, ◌+◌, ◌*◌, ◌≤◌, ◌<◌, length};
+ghost use Rattle.std.specs.Prelude.{◌≡◌, ◌+◌, ◌*◌, ◌≤◌, length, IfSome};
 ghost use Rattle.io.specs.Counts.{IsPrefixLen};
 ghost use Rattle.image.specs.Limits.{max_cells};
 ghost use Rattle.guard.specs.Guards.{guard_words};
@@ -52,7 +52,8 @@ pub fn read_input(rt: &impl Input, program: &[u8], input: &mut [u8]) -> usize
 // T, where the prefix is good: the input has the bytes that it needs, and T is within 1 to 256.
 #[tactic(auto, unfolding(crate::specs::Prefix::cells_of, crate::specs::Prefix::prefix_good, image::specs::Image::number_at))]
 pub fn cells_of(input: &[u8]) -> Option<usize>
-    ensures { result ≡ cells_of input.now }
+    ensures named { result ≡ cells_of input.now }
+    ensures there { IfSome result (λ T. (T ≤ max_cells) × (prefix_bytes T ≤ length input.now)) }
 {
     if input.len() < COUNT_BYTES {
         return None;

@@ -8,7 +8,6 @@ use lib.Dec.{eqb}
 use lib.ListN.{length, get_or, length-append}
 use Rattle.std.specs.Prelude.{Some, None, Ok, Err}
 use Rattle.base.proofs.Leasts.{least_smallest}
-use Rattle.text.specs.Writing.{Room}
 use Rattle.text.proofs.Fillings.{texts_short}
 use Rattle.image.specs.Limits.{max_programs, max_cells}
 use Rattle.image.specs.declared.refusals.Refusal.{Refusal}
@@ -135,16 +134,13 @@ module _ (image opening g : List ℕ) (bytes : (i : ℕ) → get_or image i 0 < 
     program_short k l =
         either_short (guard_faulted (length t) k a) _ _ (guard_short k (detail_of (length t) k a) l) (ended_short image t g a few words k l)
 
--- ---- and so every page fits where there is room for the longest
+-- ---- and so is every page
 
 module _ (image opening t g a : List ℕ) (tell : CanTell image opening t g a) (bytes : (i : ℕ) → get_or image i 0 < 256) (cells : WordsOf opening) (ends : WordsOf g) (words : WordsOf a) where
-  page_short : length (reasons_text image opening t g a) ≤ longest_page
+  pub page_short : length (reasons_text image opening t g a) ≤ longest_page
   unfolding reasons_text
   page_short =
       let m = tell.measured in
       let each : (k : ℕ) → k < count_of image → length (program_text image opening t g a k) ≤ longest =
       λ k l. program_short image opening g bytes cells ends t a m.cells_few words k (omega (arith, m.programs_few)) in
       omega (arith, m.programs_few, texts_short (program_text image opening t g a) (count_of image) longest each)
-
-  pub page_fits : (out : List ℕ) (at : ℕ) → at + longest_page ≤ length out → Room out at (reasons_text image opening t g a)
-  page_fits out at h = record { fits = omega (arith, page_short) }

@@ -2,13 +2,13 @@
 // is then said in `sentences`.
 #![tactic(auto)]
 
-ghost use Rattle.std.specs.Prelude.{◌≡◌, cond, ◌+◌, ◌≤◌, ◌<◌, length, get_or, replicate};
+ghost use Rattle.std.specs.Prelude.{◌≡◌, cond, ◌+◌, ◌≤◌, ◌<◌, length, get_or};
 ghost use Rattle.text.specs.Paper.{Put, Fits};
 ghost use Rattle.image.specs.Limits.{max_programs, max_cells};
 ghost use Rattle.slot.specs.declared.Group.TheVariants.{Carried};
 ghost use Rattle.slot.specs.States.{is_in};
 ghost use Rattle.area.specs.Checks.{HasSlot};
-ghost use Rattle.reasons.specs.Reasons.{committed_text, why_text, carried_text, faulted_text, place_of, ended_text, program_text, reasons_text, longest_page};
+ghost use Rattle.reasons.specs.Reasons.{committed_text, why_text, carried_text, faulted_text, place_of, ended_text, program_text, reasons_text};
 ghost use Rattle.reasons.specs.Reasons.{guard_faulted, last_store, guard_text, CanTell, CanRerun};
 
 use area::Batch;
@@ -18,13 +18,6 @@ use text::Page;
 
 // The most bytes of a page.
 pub const PAGE: usize = image::Image::PROGRAMS * sentences::LONGEST;
-
-// Room for a page.
-pub fn page_room() -> [u8; PAGE]
-    ensures { (longest_page ≡ length result) × (result ≡ replicate longest_page 0) }
-{
-    [0; PAGE]
-}
 
 // A committed program, by before whom it comes.
 #[tactic(auto, unfolding(crate::specs::Reasons::committed_text))]

@@ -1,5 +1,4 @@
 -- No second result: for each call, two outcomes that meet its contract at the same arguments look the same. Assumes nothing.
-use mathlib.Core.Path.{sym, ◌∙◌}
 use mathlib.Core.List.{List}
 use Prim.Native.Nat.{ℕ}
 use Rattle.base.specs.Unique.{Unique}
@@ -8,10 +7,6 @@ use Rattle.refused.proofs.put_refused.Kinds as put_refused_kinds
 use Rattle.refused.proofs.put_refused.Reads as Put-refused
 use Rattle.refused.proofs.put_refused_at.Kinds as put_refused_at_kinds
 use Rattle.refused.proofs.put_refused_at.Reads as put_refused_at
-use Rattle.refused.proofs.where_room.Kinds as where_room_kinds
-use Rattle.refused.proofs.where_room.Reads as where_room
-use Rattle.refused.proofs.where_at_room.Kinds as where_at_room_kinds
-use Rattle.refused.proofs.where_at_room.Reads as where_at_room
 use Rattle.refused.proofs.put_where.Kinds as put_where_kinds
 use Rattle.refused.proofs.put_where.Reads as put_where
 use Rattle.refused.proofs.put_where_at.Kinds as put_where_at_kinds
@@ -25,12 +20,6 @@ put_refused_unique κs a x y s t p q = put_same p q
 
 pub put_refused_at_unique : Unique {A = List ℕ × ℕ} 2 put_refused_at_kinds.ps put_refused_at_kinds.r (λ κs x s. (s.0.now.out.now, s.0.now.at)) put_refused_at.Post
 put_refused_at_unique κs a x y s t p q = put_same p q
-
-pub where_room_unique : Unique 0 where_room_kinds.ps where_room_kinds.r (λ κs x s. x) where_room.Post
-where_room_unique κs a x y s t p q = p.1 ∙ sym q.1
-
-pub where_at_room_unique : Unique 0 where_at_room_kinds.ps where_at_room_kinds.r (λ κs x s. x) where_at_room.Post
-where_at_room_unique κs a x y s t p q = p.1 ∙ sym q.1
 
 pub put_where_unique : Unique {A = List ℕ × ℕ} 2 put_where_kinds.ps put_where_kinds.r (λ κs x s. (s.0.now.out.now, s.0.now.at)) put_where.Post
 put_where_unique κs a x y s t p q = put_same p q

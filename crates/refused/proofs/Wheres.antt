@@ -1,10 +1,10 @@
 -- Laws of the place of a bad instruction in words: how long it is, and what is said of an image. Assumes nothing.
 use Prim.Native.Nat.{ℕ, ◌≤◌, ◌<◌}
-use mathlib.Core.Path.{◌≡◌, refl}
+use mathlib.Core.Path.{◌≡◌}
 use mathlib.Core.List.{List, [], ◌∷◌, ◌++◌}
 use native.Mathlib.Omega.{arith}
 use lib.ListN.{length, length-append}
-use Rattle.std.specs.Prelude.{Ok, Err}
+use Rattle.std.specs.Prelude.{Err}
 use Rattle.text.specs.Ascii.{ascii}
 use Rattle.text.specs.Decimal.{decimal}
 use Rattle.text.proofs.Decimals.{wide_short}
@@ -12,13 +12,11 @@ use Rattle.text.proofs.Fillings.{filled_short}
 use Rattle.image.specs.declared.refusals.Fault.{Fault}
 use Rattle.image.specs.declared.refusals.Fault.TheVariants as fault
 use Rattle.image.specs.declared.refusals.BadInstruction.{BadInstruction}
-use Rattle.image.specs.declared.refusals.ImageRefusal.{ImageRefusal}
-use Rattle.image.specs.declared.refusals.ImageRefusal.TheVariants.{Size, Header, Offsets, Instruction}
-use Rattle.image.specs.Instruction.{instructions_of, wrong_byte}
+use Rattle.image.specs.declared.refusals.ImageRefusal.TheVariants.{Instruction}
+use Rattle.image.specs.Instruction.{instructions_of}
 use Rattle.image.specs.Image.{part_of, Lies, refusal_of}
-use Rattle.image.proofs.Refusing.{Checks}
 use Rattle.image.proofs.There.{refusal_stands}
-use Rattle.refused.specs.Where.{wrong_text, place_text, where_text, where_at_line, said_of, image_where, most_where, most_where_at_line}
+use Rattle.refused.specs.Where.{wrong_text, place_text, where_text, where_at_line, most_where, most_where_at_line}
 
 -- ---- how long it is
 
@@ -49,30 +47,12 @@ unfolding where_at_line
 where_at_short bad line byte p i l b =
     omega (arith, length-append (decimal line) (ascii ", " ++ where_text bad byte), wide_short line l, where_short bad byte p i b)
 
--- ---- of an image
+-- ---- the instruction that an image's refusal names
 
-said_none : (r : Checks ImageRefusal) (image : List ℕ) → ((bad : BadInstruction) → r ≡ Err (Instruction bad) → ⊥) → said_of r image ≡ []
-unfolding said_of
-said_none (Ok done) image other = refl
-said_none (Err Size) image other = refl
-said_none (Err Header) image other = refl
-said_none (Err Offsets) image other = refl
-said_none (Err (Instruction bad)) image other = absurd (other bad refl)
-
-pub nothing_said : (image : List ℕ) → ((bad : BadInstruction) → refusal_of image ≡ Err (Instruction bad) → ⊥) → image_where image ≡ []
-unfolding image_where
-nothing_said image other = said_none (refusal_of image) image other
-
--- of a bad instruction: its program lies in the image, and it is there
 module _ (image : List ℕ) (bad : BadInstruction) (is : refusal_of image ≡ Err (Instruction bad)) where
+  -- its program lies in the image, and it is there
   pub program_lies : Lies image bad.program × (bad.program < 65536)
   program_lies = let s = refusal_stands image is in (s.program_lies, omega (arith, s.program_low))
 
-  module _ {part : List ℕ} (part_is : part ≡ part_of image bad.program) where
-    pub instruction_there : bad.instruction < instructions_of part
-    instruction_there = rw part_is (refusal_stands image is).there.instruction_there
-
-    -- its place is said, with its wrong byte
-    pub said_is : {byte : ℕ} → byte ≡ wrong_byte part bad.instruction → image_where image ≡ where_text bad byte
-    unfolding image_where said_of
-    said_is e = rw (e, part_is, is)
+  pub instruction_there : bad.instruction < instructions_of (part_of image bad.program)
+  instruction_there = (refusal_stands image is).there.instruction_there

@@ -1,12 +1,12 @@
 // What a program prints of a refusal: its line, and the place of a bad instruction in words.
 #![tactic(auto)]
 
-ghost use Rattle.std.specs.Prelude.{◌≡◌, [], ◌∷◌, ◌≤◌, length, replicate};
+ghost use Rattle.std.specs.Prelude.{[], ◌∷◌, ◌≤◌, length};
 ghost use Rattle.text.specs.Filled.{filled};
 ghost use Rattle.text.specs.Writing.{PageSays};
 ghost use Rattle.text.specs.Paper.{Put, Fits};
 ghost use Rattle.refused.specs.Refused.{refused_line, refused_at_line};
-ghost use Rattle.refused.specs.Where.{wrong_text, where_text, where_at_line, image_where, most_where, most_where_at_line};
+ghost use Rattle.refused.specs.Where.{wrong_text, where_text, where_at_line, image_where, most_where};
 
 use image::{BadInstruction, Fault, ImageRefusal, Refusal, RefusalNumbers};
 use text::Page;
@@ -36,19 +36,6 @@ pub const WHERE_BYTES: usize = 26 + 31 + 3 * 10;
 
 // With its line in a sheet, whose number may have 64 bits.
 pub const WHERE_AT_BYTES: usize = 7 + 20 + WHERE_BYTES;
-
-// Room for each.
-pub fn where_room() -> [u8; WHERE_BYTES]
-    ensures { (most_where ≡ length result) × (result ≡ replicate most_where 0) }
-{
-    [0; WHERE_BYTES]
-}
-
-pub fn where_at_room() -> [u8; WHERE_AT_BYTES]
-    ensures { (most_where_at_line ≡ length result) × (result ≡ replicate most_where_at_line 0) }
-{
-    [0; WHERE_AT_BYTES]
-}
 
 // What is wrong with a byte, by its fault.
 #[tactic(auto, unfolding(crate::specs::Where::wrong_text))]
@@ -91,14 +78,12 @@ pub fn put_where_at(page: &mut Page, bad: BadInstruction, line: usize, byte: u8)
 }
 
 // The place in an image, nothing where its refusal has no place.
+#[tactic(auto, unfolding(crate::specs::Where::said_of, crate::specs::Where::image_where))]
 pub fn image_where(image: &[u8], out: &mut [u8]) -> usize
     requires { most_where ≤ length out.old }
     ensures { PageSays (image_where image.now) out.old result out.new }
 {
-    let Err(refusal) = image::image_refusal(image) else {
-        return 0;
-    };
-    let ImageRefusal::Instruction(bad) = refusal else {
+    let Err(ImageRefusal::Instruction(bad)) = image::image_refusal(image) else {
         return 0;
     };
     let program = image::part_of(image, bad.program as usize);

@@ -1,19 +1,14 @@
 -- Laws of a batch that is run from its input: one program more, what opening shows is kept to the end, and it does not matter what stood in the area.
 -- Assumes nothing.
 use mathlib.Core.Path.{◌≡◌, refl, sym, ap, ◌∙◌}
-use mathlib.Core.Logic.{◌⊎◌, inl, inr}
-use mathlib.Core.Bool.{true, false}
 use mathlib.Core.List.{List, ◌++◌}
-use Prim.Native.Nat.{ℕ, zero, suc, ◌+◌, ◌-◌, ◌≤◌, ◌<◌}
-use native.Mathlib.Omega.{arith}
+use Prim.Native.Nat.{ℕ, zero, suc, ◌+◌, ◌≤◌}
 use native.Mathlib.Numerals.{add-one}
-use lib.Dec.{leb}
 use lib.ListN.{length, take, replicate, length-replicate}
 use lib.Seq.{length-take-le, take_at}
-use borrow.Author.Tests.{leb-false, le-leb, lt-leb}
+use borrow.Author.Tests.{le-leb}
 use Rattle.std.proofs.lemmas.Grind.{common_steps}
-use Rattle.base.proofs.Bools.{known}
-use Rattle.std.specs.Prelude.{Result, Ok, Err}
+use Rattle.std.specs.Prelude.{Ok, Err}
 use Rattle.image.specs.declared.refusals.ImageRefusal.{ImageRefusal}
 use Rattle.image.specs.declared.refusals.Refusal.{Refusal}
 use Rattle.image.specs.declared.refusals.Refusal.TheVariants.{Image}
@@ -26,12 +21,9 @@ use Rattle.area.specs.Checks.{size_is, room_refusal, open_refusal, Checked}
 use Rattle.area.proofs.Checks.{few, open_shows}
 use Rattle.steps.specs.Opening.{cleared, open_area}
 use Rattle.steps.specs.Gathering.{gather_area}
-use Rattle.steps.specs.declared.Settled.{Settled}
-use Rattle.steps.specs.Settling.{SettleSays}
 use Rattle.steps.proofs.Keeps.{open_checked, gather_checked, settle_checked}
-use Rattle.report.specs.declared.Guards.{Guards}
-use Rattle.report.specs.Batch.{Lent, lent, work_area, gather_first, settle_one, settle_first, batch_on, guards_for}
-use Rattle.report.specs.Runs.{Leaves, RunsIn, programs_in, Room, Runs, RunsTable}
+use Rattle.report.specs.Batch.{Lent, lent, work_area, gather_first, settle_one, settle_first, batch_on}
+use Rattle.report.specs.Runs.{RunsIn, programs_in, Room, Runs}
 
 -- ---- one program more
 
@@ -76,11 +68,7 @@ batch_checked image g l e =
 
 -- ---- how many programs the header names
 
-pub programs_over : (image : List ℕ) → max_programs < count_of image → 0 ≡ programs_in image
-unfolding programs_in
-programs_over image l = rw (lt-leb (count_of image) max_programs l)
-
-pub programs_within : (image : List ℕ) → count_of image ≤ max_programs → count_of image ≡ programs_in image
+programs_within : (image : List ℕ) → count_of image ≤ max_programs → count_of image ≡ programs_in image
 unfolding programs_in
 programs_within image l = rw (le-leb (count_of image) max_programs l)
 
@@ -118,26 +106,15 @@ module _ (image t g a : List ℕ) (sized : length a ≡ area_words (length t) (p
 
 -- ---- table and area as the code has them
 
--- opened, gathered, settled
-pub run_done : (image t g a : List ℕ) (n : ℕ) {b c t' a' : List ℕ} → b ≡ open_area image t g a → n ≡ count_of image → c ≡ gather_first image t g b n
-    → Leaves (settle_first image g (lent t c) n) t' a' → Leaves (batch_on image g (lent t a)) t' a'
-unfolding batch_on
-run_done image t g a n e f q h = rw (q, e, f) at h
-
 -- in the first words of what is lent
 pub on_is : (image t g areas : List ℕ) (words : ℕ) {r : Checks Refusal} {t' a' : List ℕ} (post : List ℕ) → Room image t areas words
-    → RunsIn image t g (take (words - 0) areas) r t' a' → length a' ≡ words → Runs image t g words r t' (a' ++ post)
+    → RunsIn image t g (take words areas) r t' a' → length a' ≡ words → Runs image t g words r t' (a' ++ post)
 on_is image t g areas words {r} {t'} {a'} post f h l =
-    let a = take (words - 0) areas in
-    let sized : length a ≡ area_words (length t) (programs_in image) = length-take-le (words - 0) areas (omega (arith, f.lie)) ∙ omega (arith, f.words_are) in
+    let a = take words areas in
+    let sized : length a ≡ area_words (length t) (programs_in image) = length-take-le words areas f.lie ∙ f.words_are in
     record {
       answer = h.answer ∙ same_refusal image t g a sized;
       done = λ z.
           let left = rw (same_batch image t g a sized (sym h.answer ∙ z)) at (h.done z) in
           record { table = left.table; area = take_at a' post words l ∙ left.area };
     }
-
--- on a table that is another's, with guards that are those of an input
-pub on_table : {from : Guards} {input image t u g t' areas' : List ℕ} {words : ℕ} {r : Checks Refusal} → t ≡ u → g ≡ guards_for from input t
-    → Runs image t g words r t' areas' → RunsTable from input image u words r t' g areas'
-on_table e f h = rw (← e) (record { guards = f; runs = rw f at h })

@@ -3,7 +3,7 @@
 // it (ask 2).
 #![tactic(auto)]
 
-ghost use Rattle.std.specs.Prelude.{◌≡◌, ◌≤◌, ◌<◌, length};
+ghost use Rattle.std.specs.Prelude.{◌≡◌, ◌≤◌, length};
 ghost use Rattle.text.specs.Writing.{PageSays};
 ghost use Rattle.text.specs.Paper.{Put, Fits};
 ghost use Rattle.image.specs.Limits.{max_programs, max_cells};
@@ -58,12 +58,8 @@ fn settle_all(image: &[u8], table: &mut [u32], guards: &[u32], area: &mut [u32],
 }
 
 // Opens, gathers and settles in number order, unless opening is refused.
-fn run_in(
-    image: &[u8],
-    table: &mut [u32],
-    guards: &[u32],
-    area: &mut [u32],
-) -> Result<(), Refusal>
+#[tactic(auto, unfolding(crate::specs::Batch::batch_on))]
+fn run_in(image: &[u8], table: &mut [u32], guards: &[u32], area: &mut [u32]) -> Result<(), Refusal>
     ensures { RunsIn image.now table.old guards.now area.old result table.new area.new }
 {
     sheetbendle::open(image, table, guards, area)?;
@@ -148,6 +144,7 @@ fn run_table(
 }
 
 // Runs the batch that the input holds, in the rooms that are lent.
+#[tactic(auto, unfolding(crate::specs::Batch::input_refusal, crate::specs::Batch::guards_there, crate::specs::Batch::batch_of, input::specs::Prefix::cells_of, image::specs::Refusals::check))]
 fn run_input(
     from: Guards,
     input: &[u8],
@@ -201,14 +198,28 @@ fn put_page(wanted: Wanted, page: &mut Page, opening: &[u32], batch: Batch)
 }
 
 // The page of a settled batch, for which the table as it was is read again.
-fn put_settled(wanted: Wanted, out: &mut [u8], input: &[u8], batch: Batch) -> usize
-    requires { (prefix_bytes (length batch.table.now) ≤ length input.now) × CanTell batch.image.now (table_in input.now (length batch.table.now)) batch.table.now batch.guards.now batch.area.now × (page_most wanted ≤ length out.old) }
-    ensures { PageSays (page_text wanted batch.entry.image.now (table_in input.now (length batch.entry.table.now)) batch.entry.table.now batch.entry.guards.now batch.entry.area.now) out.old result out.new }
+fn put_settled(
+    wanted: Wanted,
+    out: &mut [u8],
+    input: &[u8],
+    image: &[u8],
+    table: &[u32],
+    guards: &[u32],
+    area: &[u32],
+) -> usize
+    requires { (prefix_bytes (length table.now) ≤ length input.now) × CanTell image.now (table_in input.now (length table.now)) table.now guards.now area.now × (page_most wanted ≤ length out.old) }
+    ensures { PageSays (page_text wanted image.now (table_in input.now (length table.now)) table.now guards.now area.now) out.old result out.new }
 {
     let mut room = [0u32; image::Image::CELLS];
-    let opening = &mut room[..batch.table.len()];
+    let opening = &mut room[..table.len()];
     input::read_cells(input, opening);
     let mut page = Page::new(out);
+    let batch = Batch {
+        image,
+        table,
+        guards,
+        area,
+    };
     put_page(wanted, &mut page, opening, batch);
     page.end()
 }
@@ -225,7 +236,7 @@ fn refused_page(refusal: Refusal, out: &mut [u8]) -> usize
 }
 
 // Runs the batch that the input holds and makes the page that is wanted of it, or the refusal's line.
-#[tactic(auto, using(crate::proofs::Pages::rooms))]
+#[tactic(auto, using(crate::proofs::Pages::rooms), unfolding(crate::specs::Batch::page_of, image::specs::Refusals::unless))]
 fn make_page(wanted: Wanted, from: Guards, input: &[u8], out: &mut [u8]) -> usize
     requires { page_most wanted ≤ length out.old }
     ensures { PageSays (page_of (page_text wanted) from input.now) out.old result out.new }
@@ -235,13 +246,16 @@ fn make_page(wanted: Wanted, from: Guards, input: &[u8], out: &mut [u8]) -> usiz
     let mut areas = [0u32; sheetbendle::AREA_WORDS];
     match run_input(from, input, &mut tables, &mut guards, &mut areas) {
         Ok(used) => {
-            let batch = Batch {
-                image: input::image_behind(input, image_start(from, used.cells)),
-                table: &tables[..used.cells],
-                guards: &guards[..guard::ENDS * used.cells],
-                area: &areas[..used.words],
-            };
-            put_settled(wanted, out, input, batch)
+            let image = input::image_behind(input, image_start(from, used.cells));
+            put_settled(
+                wanted,
+                out,
+                input,
+                image,
+                &tables[..used.cells],
+                &guards[..guard::ENDS * used.cells],
+                &areas[..used.words],
+            )
         }
         Err(refusal) => refused_page(refusal, out),
     }
@@ -264,6 +278,7 @@ pub fn reasons_page(from: Guards, input: &[u8], out: &mut [u8]) -> usize
 }
 
 // What all of them say of an input on standard error: the place of its image's bad instruction, or nothing.
+#[tactic(auto, unfolding(crate::specs::Batch::said, crate::specs::Batch::guards_there, input::specs::Prefix::cells_of))]
 pub fn said(from: Guards, input: &[u8], out: &mut [u8]) -> usize
     requires { most_where ≤ length out.old }
     ensures { PageSays (said from input.now) out.old result out.new }

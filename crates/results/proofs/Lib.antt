@@ -1,4 +1,3 @@
-pub mod Orders
 pub mod Short
 pub mod Unique
 pub mod Cases

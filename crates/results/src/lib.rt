@@ -2,14 +2,14 @@
 // a buffer.
 #![tactic(auto)]
 
-ghost use Rattle.std.specs.Prelude.{◌≡◌, ◌≤◌, ◌<◌, length};
+ghost use Rattle.std.specs.Prelude.{◌≡◌, ◌≤◌, length};
 ghost use Rattle.text.specs.Paper.{Put, Fits};
 ghost use Rattle.text.specs.Filled.{texts};
 ghost use Rattle.image.specs.Limits.{max_cells};
 ghost use Rattle.image.specs.Image.{count_of};
 ghost use Rattle.area.specs.Checks.{Measured, HasSlot};
 ghost use Rattle.results.specs.Listing.{rule_in_force, first_line, word_of, program_line, program_lines};
-ghost use Rattle.results.specs.Listing.{order_entry, order_line, cell_line, cell_lines, listing_with, listing, most_listing};
+ghost use Rattle.results.specs.Listing.{order_entry, order_line, cell_lines, listing_with, listing};
 
 use area::Batch;
 use text::Page;
@@ -29,13 +29,6 @@ pub const BYTES: usize = FIRST_BYTES
     + image::Image::PROGRAMS * PROGRAM_BYTES
     + ORDER_BYTES
     + image::Image::CELLS * CELL_BYTES;
-
-// Room for every listing.
-pub fn room() -> [u8; BYTES]
-    ensures { most_listing ≡ length result }
-{
-    [0; BYTES]
-}
 
 // The rule in force.
 fn rule_in_force(image: &[u8]) -> u32
@@ -144,6 +137,7 @@ fn put_with(page: &mut Page, order: &[u32], batch: Batch)
 }
 
 // All that came of a settled batch; where it has no listed order, the refusal.
+#[tactic(auto, unfolding(crate::specs::Listing::listing, listing::specs::Listing::order_answer, listing::specs::Listing::order_list, image::specs::Refusals::unless))]
 pub fn put_listing(page: &mut Page, batch: Batch)
     requires { Measured (length batch.table.now) (count_of batch.image.now) batch.area.now × Fits page.old (listing batch.image.now batch.table.now batch.guards.now batch.area.now) }
     ensures { Put page.old (listing batch.entry.image.now batch.entry.table.now batch.entry.guards.now batch.entry.area.now) page.new }
