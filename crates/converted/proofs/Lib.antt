@@ -1,4 +1,3 @@
 pub mod Pages
-pub mod Words
 pub mod Cases
 pub mod Unique

@@ -2,6 +2,7 @@
 use mathlib.Core.List.{List}
 use Prim.Native.Nat.{ℕ}
 use Rattle.base.specs.Unique.{Unique}
+use Rattle.text.proofs.Pages.{page_same}
 use Rattle.converted.proofs.image_page.Kinds as image_page_kinds
 use Rattle.converted.proofs.image_page.Reads as image_page
 use Rattle.converted.proofs.sheet_page.Kinds as sheet_page_kinds
@@ -11,10 +12,10 @@ use Rattle.converted.proofs.sheet_said.Reads as sheet_said
 
 -- how many bytes are the page, and what the output holds at the exit
 pub image_page_unique : Unique {A = ℕ × List ℕ} 2 image_page_kinds.ps image_page_kinds.r (λ κs x s. (x, s.1.0.now)) image_page.Post
-image_page_unique κs a x y s t p q = cc
+image_page_unique κs a x y s t p q = page_same p q
 
 pub sheet_page_unique : Unique {A = ℕ × List ℕ} 2 sheet_page_kinds.ps sheet_page_kinds.r (λ κs x s. (x, s.1.0.now)) sheet_page.Post
-sheet_page_unique κs a x y s t p q = cc
+sheet_page_unique κs a x y s t p q = page_same p q
 
 pub sheet_said_unique : Unique {A = ℕ × List ℕ} 2 sheet_said_kinds.ps sheet_said_kinds.r (λ κs x s. (x, s.1.0.now)) sheet_said.Post
-sheet_said_unique κs a x y s t p q = cc
+sheet_said_unique κs a x y s t p q = page_same p q

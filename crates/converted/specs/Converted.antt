@@ -1,6 +1,6 @@
 -- What the programs `to_image` and `to_sheet` print, for every input: document 02, ask 1; and what they say on standard error: ask 2. Refusal 10 is none of
 -- theirs: their room is never too short. Assumes nothing.
-use Rattle.std.specs.Prelude.{ℕ, List, [], Result, Ok, Err}
+use Rattle.std.specs.Prelude.{ℕ, List, [], Result, Err}
 use Rattle.image.specs.declared.refusals.BadInstruction.{BadInstruction}
 use Rattle.image.specs.declared.refusals.ImageRefusal.TheVariants as refusal
 use Rattle.image.specs.declared.refusals.Refusal.TheVariants.{Image}

@@ -18,6 +18,7 @@ use text::Page;
 pub const LONGEST_INPUT: usize = 1048576;
 
 // What `to_image` prints of a sheet.
+#[tactic(auto, using(crate::proofs::Pages::images), unfolding(crate::specs::Converted::image_page, from_sheet::specs::FromSheet::image_of_answer, from_sheet::specs::FromSheet::image_of_output, image::specs::Refusals::unless))]
 pub fn image_page(sheet: &[u8], out: &mut [u8]) -> usize
     requires { max_bytes ≤ length out.old }
     ensures { PageSays (image_page sheet.now) out.old result out.new }
@@ -29,6 +30,7 @@ pub fn image_page(sheet: &[u8], out: &mut [u8]) -> usize
 }
 
 // The line of a sheet that has no image.
+#[tactic(auto, using(crate::proofs::Pages::rooms), unfolding(crate::specs::Converted::unwritten_line))]
 fn unwritten_page(unwritten: Unwritten, out: &mut [u8]) -> usize
     requires { most_refused ≤ length out.old }
     ensures { PageSays (unwritten_line unwritten) out.old result out.new }
@@ -44,13 +46,13 @@ fn unwritten_page(unwritten: Unwritten, out: &mut [u8]) -> usize
 }
 
 // What it says of a sheet on standard error: the line and the place of its bad instruction, or nothing.
+#[tactic(auto, unfolding(crate::specs::Converted::said_of, crate::specs::Converted::sheet_said))]
 pub fn sheet_said(sheet: &[u8], out: &mut [u8]) -> usize
     requires { most_where_at_line ≤ length out.old }
     ensures { PageSays (sheet_said sheet.now) out.old result out.new }
 {
     let Err(Unwritten::Refused(Refusal::Image(ImageRefusal::Instruction(bad)))) =
-        from_sheet::sheet_refusal(sheet)
-    else {
+        from_sheet::sheet_refusal(sheet) else {
         return 0;
     };
     let wrong = from_sheet::wrong_line(sheet, bad.program as usize, bad.instruction as usize);
@@ -60,6 +62,7 @@ pub fn sheet_said(sheet: &[u8], out: &mut [u8]) -> usize
 }
 
 // What `to_sheet` prints of an image.
+#[tactic(auto, using(from_image::proofs::Longest::sheet_short), unfolding(crate::specs::Converted::sheet_page, from_image::specs::Longest::longest_sheet, image::specs::Refusals::unless))]
 pub fn sheet_page(image: &[u8], out: &mut [u8]) -> usize
     requires { longest_sheet ≤ length out.old }
     ensures { PageSays (sheet_page image.now) out.old result out.new }

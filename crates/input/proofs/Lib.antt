@@ -1,4 +1,3 @@
-pub mod Prefixes
 pub mod Unique
 pub mod Cases
 pub mod ReadBack

@@ -2,11 +2,11 @@
 -- Assumes nothing.
 use mathlib.Core.Path.{◌≡◌, refl, sym, ap, ◌∙◌}
 use mathlib.Core.List.{List, ◌++◌}
-use Prim.Native.Nat.{ℕ, zero, suc, ◌+◌, ◌≤◌, ◌<◌}
+use Prim.Native.Nat.{ℕ, zero, suc, ◌+◌, ◌≤◌}
 use native.Mathlib.Numerals.{add-one}
 use lib.ListN.{length, take, replicate, length-replicate}
 use lib.Seq.{length-take-le, take_at}
-use borrow.Author.Tests.{le-leb, lt-leb}
+use borrow.Author.Tests.{le-leb}
 use Rattle.std.proofs.lemmas.Grind.{common_steps}
 use Rattle.std.specs.Prelude.{Ok, Err}
 use Rattle.image.specs.declared.refusals.ImageRefusal.{ImageRefusal}
@@ -23,7 +23,7 @@ use Rattle.steps.specs.Opening.{cleared, open_area}
 use Rattle.steps.specs.Gathering.{gather_area}
 use Rattle.steps.proofs.Keeps.{open_checked, gather_checked, settle_checked}
 use Rattle.report.specs.Batch.{Lent, lent, work_area, gather_first, settle_one, settle_first, batch_on}
-use Rattle.report.specs.Runs.{Leaves, RunsIn, programs_in, Room, Runs}
+use Rattle.report.specs.Runs.{RunsIn, programs_in, Room, Runs}
 
 -- ---- one program more
 
@@ -68,11 +68,7 @@ batch_checked image g l e =
 
 -- ---- how many programs the header names
 
-pub programs_over : (image : List ℕ) → max_programs < count_of image → 0 ≡ programs_in image
-unfolding programs_in
-programs_over image l = rw (lt-leb (count_of image) max_programs l)
-
-pub programs_within : (image : List ℕ) → count_of image ≤ max_programs → count_of image ≡ programs_in image
+programs_within : (image : List ℕ) → count_of image ≤ max_programs → count_of image ≡ programs_in image
 unfolding programs_in
 programs_within image l = rw (le-leb (count_of image) max_programs l)
 
@@ -109,12 +105,6 @@ module _ (image t g a : List ℕ) (sized : length a ≡ area_words (length t) (p
   same_batch e = rw (same_opened e)
 
 -- ---- table and area as the code has them
-
--- opened, gathered, settled
-pub run_done : (image t g a : List ℕ) (n : ℕ) {b c t' a' : List ℕ} → b ≡ open_area image t g a → n ≡ count_of image → c ≡ gather_first image t g b n
-    → Leaves (settle_first image g (lent t c) n) t' a' → Leaves (batch_on image g (lent t a)) t' a'
-unfolding batch_on
-run_done image t g a n e f q h = rw (q, e, f) at h
 
 -- in the first words of what is lent
 pub on_is : (image t g areas : List ℕ) (words : ℕ) {r : Checks Refusal} {t' a' : List ℕ} (post : List ℕ) → Room image t areas words

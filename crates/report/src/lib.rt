@@ -58,6 +58,7 @@ fn settle_all(image: &[u8], table: &mut [u32], guards: &[u32], area: &mut [u32],
 }
 
 // Opens, gathers and settles in number order, unless opening is refused.
+#[tactic(auto, unfolding(crate::specs::Batch::batch_on))]
 fn run_in(image: &[u8], table: &mut [u32], guards: &[u32], area: &mut [u32]) -> Result<(), Refusal>
     ensures { RunsIn image.now table.old guards.now area.old result table.new area.new }
 {
@@ -143,6 +144,7 @@ fn run_table(
 }
 
 // Runs the batch that the input holds, in the rooms that are lent.
+#[tactic(auto, unfolding(crate::specs::Batch::input_refusal, crate::specs::Batch::guards_there, crate::specs::Batch::batch_of, input::specs::Prefix::cells_of, image::specs::Refusals::check))]
 fn run_input(
     from: Guards,
     input: &[u8],
@@ -234,7 +236,7 @@ fn refused_page(refusal: Refusal, out: &mut [u8]) -> usize
 }
 
 // Runs the batch that the input holds and makes the page that is wanted of it, or the refusal's line.
-#[tactic(auto, using(crate::proofs::Pages::rooms))]
+#[tactic(auto, using(crate::proofs::Pages::rooms), unfolding(crate::specs::Batch::page_of, image::specs::Refusals::unless))]
 fn make_page(wanted: Wanted, from: Guards, input: &[u8], out: &mut [u8]) -> usize
     requires { page_most wanted ≤ length out.old }
     ensures { PageSays (page_of (page_text wanted) from input.now) out.old result out.new }
@@ -276,6 +278,7 @@ pub fn reasons_page(from: Guards, input: &[u8], out: &mut [u8]) -> usize
 }
 
 // What all of them say of an input on standard error: the place of its image's bad instruction, or nothing.
+#[tactic(auto, unfolding(crate::specs::Batch::said, crate::specs::Batch::guards_there, input::specs::Prefix::cells_of))]
 pub fn said(from: Guards, input: &[u8], out: &mut [u8]) -> usize
     requires { most_where ≤ length out.old }
     ensures { PageSays (said from input.now) out.old result out.new }
