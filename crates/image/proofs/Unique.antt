@@ -28,6 +28,10 @@ use Rattle.image.proofs.program_refusal.Kinds as program_refusal_kinds
 use Rattle.image.proofs.program_refusal.Reads as program_refusal
 use Rattle.image.proofs.refusals.RefusalNumbersFromResultUnitRefusal.from.Kinds as told_kinds
 use Rattle.image.proofs.refusals.RefusalNumbersFromResultUnitRefusal.from.Reads as told
+use Rattle.image.proofs.refusals.RefusalNumbersFromRefusal.from.Kinds as numbers_kinds
+use Rattle.image.proofs.refusals.RefusalNumbersFromRefusal.from.Reads as numbers
+use Rattle.image.proofs.refusals.RefusalNumbersFromImageRefusal.from.Kinds as image_numbers_kinds
+use Rattle.image.proofs.refusals.RefusalNumbersFromImageRefusal.from.Reads as image_numbers
 use Rattle.image.proofs.program.Kinds as program_kinds
 use Rattle.image.proofs.program.Reads as program
 use Rattle.image.proofs.program_start.Kinds as program_start_kinds
@@ -79,3 +83,9 @@ program_start_unique κs a x y s t p q = p ∙ sym q
 -- and the numbers of a refusal that C gets
 pub told_unique : Unique 0 told_kinds.ps told_kinds.r (λ κs x s. x) told.Post
 told_unique κs a x y s t p q = p ∙ sym q
+
+pub numbers_of_unique : Unique 0 numbers_kinds.ps numbers_kinds.r (λ κs x s. x) numbers.Post
+numbers_of_unique κs a x y s t p q = p ∙ sym q
+
+pub numbers_of_image_unique : Unique 0 image_numbers_kinds.ps image_numbers_kinds.r (λ κs x s. x) image_numbers.Post
+numbers_of_image_unique κs a x y s t p q = p ∙ sym q

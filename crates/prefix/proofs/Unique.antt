@@ -4,25 +4,15 @@ use mathlib.Core.List.{List}
 use Prim.Native.Nat.{ℕ}
 use Rattle.base.specs.Unique.{Unique}
 use Rattle.text.proofs.Pages.{page_same}
-use Rattle.prefix.proofs.room.Kinds as room_kinds
-use Rattle.prefix.proofs.room.Reads as room
 use Rattle.prefix.proofs.put_prefix.Kinds as put_prefix_kinds
 use Rattle.prefix.proofs.put_prefix.Reads as put_prefix
-use Rattle.prefix.proofs.guards_room.Kinds as guards_room_kinds
-use Rattle.prefix.proofs.guards_room.Reads as guards_room
 use Rattle.prefix.proofs.put_guards.Kinds as put_guards_kinds
 use Rattle.prefix.proofs.put_guards.Reads as put_guards
-
-pub room_unique : Unique 0 room_kinds.ps room_kinds.r (λ κs x s. x) room.Post
-room_unique κs a x y s t p q = p.1 ∙ sym q.1
 
 -- how many bytes are the prefix, and what the output holds at the exit
 pub put_prefix_unique : Unique {A = ℕ × List ℕ} 2 put_prefix_kinds.ps put_prefix_kinds.r (λ κs x s. (x, s.0.now)) put_prefix.Post
 put_prefix_unique κs a x y s t p q = page_same p q
 
 -- the same of the guards
-pub guards_room_unique : Unique 0 guards_room_kinds.ps guards_room_kinds.r (λ κs x s. x) guards_room.Post
-guards_room_unique κs a x y s t p q = p.1 ∙ sym q.1
-
 pub put_guards_unique : Unique {A = ℕ × List ℕ} 2 put_guards_kinds.ps put_guards_kinds.r (λ κs x s. (x, s.0.now)) put_guards.Post
 put_guards_unique κs a x y s t p q = page_same p q

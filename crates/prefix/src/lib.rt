@@ -2,21 +2,14 @@
 // (document 02, ask 5): four bytes for each end, low byte first.
 #![tactic(auto)]
 
-ghost use Rattle.std.specs.Prelude.{◌≡◌, ◌*◌, ◌≤◌, length, replicate};
+ghost use Rattle.std.specs.Prelude.{◌*◌, ◌≤◌, length};
 ghost use Rattle.text.specs.Paper.{Put, Fits};
 ghost use Rattle.text.specs.Writing.{PageSays};
 ghost use Rattle.image.specs.Limits.{max_cells};
-ghost use Rattle.prefix.specs.Prefix.{fours, prefix, prefix_bytes, guard_bytes};
+ghost use Rattle.prefix.specs.Prefix.{fours, prefix, prefix_bytes};
 
 // The bytes of the longest prefix.
 pub const MOST: usize = 2 + 4 * image::Image::CELLS;
-
-// Room for every prefix.
-pub fn room() -> [u8; MOST]
-    ensures { (prefix_bytes max_cells ≡ length result) × (result ≡ replicate (prefix_bytes max_cells) 0) }
-{
-    [0; MOST]
-}
 
 // Words, one behind the other: four bytes each, low first.
 #[tactic(auto, using(crate::proofs::Prefixes::cells))]
@@ -43,13 +36,6 @@ pub fn put_prefix(out: &mut [u8], cells: &[u32]) -> usize
 
 // The bytes of the most guards.
 pub const MOST_GUARDS: usize = 4 * guard::ENDS * image::Image::CELLS;
-
-// Room for the guards of every table.
-pub fn guards_room() -> [u8; MOST_GUARDS]
-    ensures { (guard_bytes max_cells ≡ length result) × (result ≡ replicate (guard_bytes max_cells) 0) }
-{
-    [0; MOST_GUARDS]
-}
 
 // The guards of a table, at the front of what is lent.
 #[tactic(auto, using(crate::proofs::Prefixes::cells))]

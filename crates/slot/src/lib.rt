@@ -27,7 +27,7 @@ pub const VALUES: usize = STORES + LIST;
 
 pub const WORDS: usize = VALUES + LIST;
 
-// The states.
+// The states. They stay numbers: words of the area that C lends and reads, by the names of include/sheetbendle.h.
 pub const WAITING: u32 = 0;
 
 pub const GATHERED: u32 = 1;

@@ -1,12 +1,12 @@
 -- Laws of writing on a page. Assumes nothing.
-use mathlib.Core.Path.{◌≡◌, ◌∙◌, sym, refl}
+use mathlib.Core.Path.{◌≡◌, ◌∙◌, sym, refl, ap}
 use mathlib.Core.List.{List, [], ◌++◌, append_assoc, append-nil}
-use Prim.Native.Nat.{ℕ, ◌<◌}
+use Prim.Native.Nat.{ℕ, ◌+◌, ◌<◌}
 use native.Mathlib.Omega.{arith}
 use lib.ListN.{length, drop, take, take-append-drop}
 use Rattle.std.proofs.lemmas.Grind.{common_steps, elements}
 use Rattle.text.specs.Filled.{texts}
-use Rattle.text.specs.Writing.{PageSays}
+use Rattle.text.specs.Writing.{pasted, Wrote, PageSays}
 use Rattle.text.specs.declared.page.Page.{Page}
 use Rattle.text.specs.Paper.{Put, Fits}
 use Rattle.text.proofs.Fillings.{texts_fit}
@@ -19,6 +19,18 @@ put_more h k = grind (arith, common_steps)
 
 pub put_room : {p q : Page} {w x : List ℕ} → Fits p (w ++ x) → Put p w q → Fits q x
 put_room room h = grind (arith, common_steps)
+
+-- a write on a page is a write at its place
+pub put_wrote : {p q : Page} {w : List ℕ} → Put p w q → Wrote p.out.now p.at w q.out.now q.at
+unfolding pasted
+put_wrote {p} {q} {w} h =
+    let d : drop q.at q.out.now ≡ drop q.at p.out.now = grind (arith, elements) in
+    let e : drop q.at p.out.now ≡ drop (p.at + length w) p.out.now = ap (λ (i : ℕ). drop i p.out.now) h.at in
+    record {
+      bytes = sym (take-append-drop q.at q.out.now) ∙ rw (h.front, d, e) refl;
+      long = h.long;
+      next = h.at;
+    }
 
 -- there is one outcome only
 pub put_same : {p q r : Page} {w : List ℕ} → Put p w q → Put p w r → ◌≡◌ {A = List ℕ × ℕ} (q.out.now, q.at) (r.out.now, r.at)

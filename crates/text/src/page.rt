@@ -1,9 +1,21 @@
 // A page: a lent slice, written from its front on. Every call puts its bytes behind those of the calls before it.
-ghost use Rattle.std.specs.Prelude.{◌≡◌, [], ◌∷◌};
+ghost use Rattle.std.specs.Prelude.{◌≡◌, ℕ, ◌+◌, ◌≤◌, [], ◌∷◌, ◌++◌, length, take, get_or};
 ghost use Rattle.text.specs.Decimal.{decimal};
 ghost use Rattle.text.specs.Filled.{shown, left, filled};
 
-// A lent slice, and the place in it where the next byte goes.
+// Copies bytes to a place of a slice: one by one, which is compiled to memcpy, while the library's copy needs memmove, and a board may not have it.
+fn copy_to(out: &mut [u8], at: usize, bytes: &[u8])
+    requires { at + length bytes.now ≤ length out.old }
+    ensures long { length out.new ≡ length out.old }
+    ensures front { take (at + length bytes.now) out.new ≡ take at out.old ++ bytes.now }
+    ensures behind { (i : ℕ) → at + length bytes.now ≤ i → get_or out.new i 0 ≡ get_or out.old i 0 }
+{
+    for (k, byte) in bytes.iter().enumerate() {
+        out[at + k] = *byte;
+    }
+}
+
+// A lent slice, and the place in it where the next byte goes: at first its front, so whoever writes behind other bytes lends the part behind them.
 #[derive(Drop)]
 pub struct Page<'a> {
     out: &'a mut [u8],
@@ -43,9 +55,8 @@ impl<'a> Page<'a> {
         requires { Fits self.old bytes.now }
         ensures { Put self.old bytes.now self.new }
     {
-        let end = self.at + bytes.len();
-        self.out[self.at..end].copy_from_slice(bytes);
-        self.at = end;
+        copy_to(self.out, self.at, bytes);
+        self.at += bytes.len();
     }
 
     // A number in decimal.
