@@ -1,7 +1,7 @@
 -- The call for the next image, once its programs are counted: what the writing takes, and what the call answers and leaves. Assumes nothing.
-use mathlib.Core.Path.{◌≡◌, refl, sym, ap, ◌∙◌}
+use mathlib.Core.Path.{◌≡◌, refl, sym, ◌∙◌}
 use mathlib.Core.List.{List}
-use Prim.Native.Nat.{ℕ, ◌+◌, ◌≤◌}
+use Prim.Native.Nat.{ℕ, ◌+◌}
 use native.Mathlib.Omega.{arith}
 use lib.ListN.{length}
 use Rattle.std.specs.Prelude.{Ok, Err}
@@ -17,7 +17,7 @@ use Rattle.carry.specs.declared.Chosen.{Chosen}
 use Rattle.carry.specs.Next.{carried_count, next_programs, next_image, lent_refusal, size_refusal, next_refusal, NextSays}
 use Rattle.carry.specs.Sources.{Choice, Sources, image_from}
 use Rattle.carry.proofs.Sources.{carried_counted, carried_programs, fresh_counted, fresh_programs}
-use Rattle.carry.proofs.Checks.{lent_shows, size_shows, next_refused, next_done}
+use Rattle.carry.proofs.Checks.{lent_shows, next_refused, next_done}
 
 module _ (image t g a fresh : List ℕ) {c : Chosen} (lent : lent_refusal image t g a fresh ≡ passed) (k : Choice image (length t) a fresh c) where
   pub chosen_sources : Sources c

@@ -1,6 +1,6 @@
 -- The image of two sources: how many programs it has, how long it is, of which pieces it is; and that of the carried programs and the fresh image's it
 -- is the next image. Assumes nothing.
-use mathlib.Core.Path.{◌≡◌, refl, ap, ◌∙◌}
+use mathlib.Core.Path.{◌≡◌, ◌∙◌}
 use mathlib.Core.Bool.{true}
 use mathlib.Core.List.{List, ◌++◌, append_assoc}
 use Prim.Native.Nat.{ℕ, ◌+◌, ◌<◌}
@@ -12,7 +12,7 @@ use Rattle.base.proofs.Counts.{count_all, count_ext}
 use Rattle.base.proofs.Masks.{mask_has}
 use Rattle.image.specs.Limits.{head_bytes}
 use Rattle.image.specs.Image.{count_of, rule_byte}
-use Rattle.writer.specs.Joined.{joined, ends, image_of}
+use Rattle.writer.specs.Joined.{joined, ends}
 use Rattle.writer.specs.Picked.{picked, all_of}
 use Rattle.writer.specs.Writing.{header}
 use Rattle.writer.proofs.Programs.{length_joined, length_image, picked_count, picked_ext, picked_short}
@@ -20,7 +20,7 @@ use Rattle.writer.proofs.Whole.{image_both}
 use Rattle.slot.specs.declared.Group.TheVariants.{Carried}
 use Rattle.area.specs.Layout.{in_group}
 use Rattle.carry.specs.declared.Chosen.{Chosen}
-use Rattle.carry.specs.Next.{carried_count, carried_of, next_programs, next_image}
+use Rattle.carry.specs.Next.{carried_count, carried_of}
 use Rattle.carry.specs.Sources.{Sources, old_programs, new_programs, image_from}
 
 module _ {c : Chosen} (s : Sources c) where

@@ -9,7 +9,9 @@ use lib.ListN.{length, length-append}
 use borrow.Author.Tests.{ltb-true}
 use Rattle.base.proofs.Numbers.{every_at}
 use Rattle.text.specs.Decimal.{decimal}
+use Rattle.std.proofs.lemmas.Grind.{common_steps}
 use Rattle.text.specs.Filled.{texts}
+use Rattle.text.proofs.Fillings.{length_texts, texts_none}
 use Rattle.image.specs.Refusals.{passed}
 use Rattle.image.specs.Instruction.{rows, known, byte_of, instructions_of, program_good}
 use Rattle.image.specs.Image.{count_of, rule_byte, part_of, code_good, refusal_of}
@@ -61,6 +63,11 @@ programs_texts image (suc n) =
 pub named_at : (program : List ℕ) → program_good program ≡ true → (i : ℕ) → i < instructions_of program → byte_of program i 0 < operations
 unfolding known rows
 named_at program good i l = ltb-true (byte_of program i 0) operations (good_at program good i l).operation
+
+-- how many bytes they have, one turn after another
+pub ruleset lines_long = (common_steps, first_texts, named_at, length_texts, texts_none)
+
+pub ruleset programs_long = (common_steps, programs_texts, length_program, length_texts, texts_none)
 
 -- ---- an image that is not refused
 

@@ -53,7 +53,7 @@ fn instruction_at(program: &[u8], i: usize) -> sheet::Instruction
 }
 
 // A line for each instruction of a program.
-#[tactic(auto, using(crate::proofs::Sheets::first_texts, crate::proofs::Sheets::named_at, text::proofs::Pages::text_room, text::proofs::Fillings::turns))]
+#[tactic(auto, using(crate::proofs::Sheets::first_texts, text::proofs::Fillings::turns))]
 fn put_instructions(page: &mut Page, program: &[u8])
     requires { Good program.now × Fits page.old (sheet_text (first_lines program.now (instructions_of program.now))) }
     ensures { Put page.old (sheet_text (first_lines program.now (instructions_of program.now))) page.new }
@@ -116,7 +116,7 @@ fn instruction_length(i: sheet::Instruction) -> usize
 }
 
 // How many bytes the lines of a program's instructions have.
-#[tactic(auto, using(crate::proofs::Sheets::first_texts, crate::proofs::Sheets::named_at, text::proofs::Fillings::length_texts, text::proofs::Fillings::texts_none))]
+#[tactic(auto, using(crate::proofs::Sheets::lines_long))]
 fn instructions_length(program: &[u8]) -> usize
     requires { Good program.now }
     ensures { (result ≡ length (sheet_text (first_lines program.now (instructions_of program.now)))) × (result ≤ most_line * max_instructions) }
@@ -129,7 +129,7 @@ fn instructions_length(program: &[u8]) -> usize
 }
 
 // How many bytes the lines of the first n programs have.
-#[tactic(auto, using(crate::proofs::Sheets::programs_texts, crate::proofs::Sheets::length_program, text::proofs::Fillings::length_texts, text::proofs::Fillings::texts_none))]
+#[tactic(auto, using(crate::proofs::Sheets::programs_long))]
 fn programs_length(image: &[u8], n: usize) -> usize
     requires { Programs image.now n }
     ensures { (result ≡ length (sheet_text (programs_lines (picked (λ k. true) image.now n)))) × (result ≤ most_lines * n) }
@@ -178,7 +178,7 @@ pub fn longest_sheet() -> usize
 // ---- the call
 
 // Checks 1 to 4, then 10.
-#[tactic(auto, unfolding(crate::specs::FromImage::sheet_of_refusal, image::specs::Refusals::after, image::specs::Refusals::check, image::specs::Refusals::given_as))]
+#[tactic(auto, unfolding(crate::specs::FromImage::sheet_of_refusal, image::specs::Opened::opened))]
 fn sheet_refusal(image: &[u8], out: &[u8]) -> Result<(), Refusal>
     ensures { result ≡ sheet_of_refusal image.now out.now }
 {

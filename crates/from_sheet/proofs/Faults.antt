@@ -36,7 +36,8 @@ module _ {E : Type 0} where
   unfolding first_of after
   first_first fault zero = sym (after_none (fault 0))
   first_first fault (suc n) =
-      ap (λ (r : Checks E). after r (fault (suc n))) (first_first fault n) ∙ sym (after_again (fault 0) (first_of n (λ k. fault (suc k))) (fault (suc n)))
+      ap (λ (r : Checks E). after r (fault (suc n))) (first_first fault n)
+      ∙ sym (after_again (fault 0) (first_of n (λ k. fault (suc k))) (fault (suc n)))
 
 firsts_same : (n : ℕ) {f g : ℕ → Checks BadInstruction} → ((k : ℕ) → f k ≡ g k) → first_of n f ≡ first_of n g
 firsts_same n h = ap (first_of n) (λ i k. h k i)

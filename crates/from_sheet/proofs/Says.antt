@@ -14,7 +14,8 @@ use Rattle.image.specs.Limits.{max_programs, max_instructions, instruction_bytes
 use Rattle.image.specs.declared.refusals.ImageRefusal.TheVariants.{Header, Offsets}
 use Rattle.image.specs.declared.refusals.Refusal.TheVariants.{TooShort}
 use Rattle.image.specs.Refusals.{passed}
-use Rattle.image.proofs.Refusing.{fails, goes_on, none_fails, first_refuses, first_passes, none_after, passed_given, refused_as_lem, done_as, unless_either}
+use Rattle.image.proofs.Refusing.{fails, goes_on, none_fails, first_refuses, first_passes, none_after, passed_given}
+use Rattle.image.proofs.Refusing.{refused_as_lem, done_as, unless_either}
 use Rattle.writer.proofs.Programs.{length_image}
 use Rattle.sheet.specs.declared.Unwritten.{Unwritten}
 use Rattle.sheet.specs.declared.Unwritten.TheVariants.{Refused, BadLine}
@@ -131,7 +132,8 @@ module _ (sheet out : List ℕ) where
         → ImageOfSays sheet out (Ok n) out'
     unfolding image_of_refusal image_of_answer image_of_output
     done_says h w =
-        let e : passed ≡ image_of_refusal sheet out = first_passes refl good (goes_on _ (le-leb (length (image_of_sheet sheet)) (length out) h) refl) in
+        let fits = le-leb (length (image_of_sheet sheet)) (length out) h in
+        let e : passed ≡ image_of_refusal sheet out = first_passes refl good (goes_on (Refused TooShort) fits refl) in
         record { answer = done_as Err e refl (ap Ok w.answer); output = done_as (λ r. out) e refl (page_bytes w) }
 
   -- a length that is answered is an image's

@@ -4,7 +4,6 @@ use mathlib.Core.Bool.{true, false}
 use mathlib.Core.List.{List, [], ◌∷◌, ◌++◌}
 use Prim.Native.Nat.{ℕ, zero, suc, ◌+◌, ◌-◌, ◌≤◌, ◌<◌}
 use native.Mathlib.Omega.{arith}
-use native.Mathlib.Numerals.{add-one}
 use lib.ListN.{length, get_or}
 use Rattle.base.proofs.Bools.{clash}
 use Rattle.image.specs.Instruction.{wrong_byte}
@@ -42,9 +41,6 @@ pub record Search (all : List Line) (p : ℕ) (ls : List Line) (behind left : �
   pub program_is : get_or (leading ls ∷ programs ls) left [] ≡ get_or (programs all) p []
   pub some : left ≤ length (programs ls)
 
-pub search_start : (all : List Line) (p : ℕ) → p < length (programs all) → Search all p all 0 (p + 1)
-search_start all p l = record { line_is = omega arith; program_is = rw (add-one p); some = omega arith }
-
 -- a line more
 search_next : {all : List Line} {p : ℕ} (l : Line) (ls : List Line) {behind : ℕ} (left : ℕ) → 0 < left → Search all p (l ∷ ls) behind left
     → Search all p ls (behind + 1) (left_behind left l)
@@ -57,15 +53,15 @@ search_next line.Program ls (suc n) some s =
 search_next (line.Instruction i) ls (suc n) some s = record { line_is = omega (arith, s.line_is); program_is = s.program_is; some = s.some }
 search_next line.Other ls (suc n) some s = record { line_is = omega (arith, s.line_is); program_is = s.program_is; some = s.some }
 
-pub search_program : {all : List Line} {p : ℕ} {l : Line} {ls : List Line} {behind : ℕ} (left : ℕ) → begins l ≡ true → Search all p (l ∷ ls) behind (left + 1)
-    → Search all p ls (behind + 1) left
+pub search_program : {all : List Line} {p : ℕ} {l : Line} {ls : List Line} {behind : ℕ} (left : ℕ) → begins l ≡ true
+    → Search all p (l ∷ ls) behind (left + 1) → Search all p ls (behind + 1) left
 unfolding left_behind
 search_program {l = l} {ls = ls} left e s =
     let less : left + 1 - 1 ≡ left = omega arith in
     rw (e, less) at (search_next l ls (left + 1) (omega arith) s)
 
-pub search_other : {all : List Line} {p : ℕ} {l : Line} {ls : List Line} {behind : ℕ} (left : ℕ) → begins l ≡ false → Search all p (l ∷ ls) behind (left + 1)
-    → Search all p ls (behind + 1) (left + 1)
+pub search_other : {all : List Line} {p : ℕ} {l : Line} {ls : List Line} {behind : ℕ} (left : ℕ) → begins l ≡ false
+    → Search all p (l ∷ ls) behind (left + 1) → Search all p ls (behind + 1) (left + 1)
 unfolding left_behind
 search_other {l = l} {ls = ls} left e s = rw e at (search_next l ls (left + 1) (omega arith) s)
 

@@ -27,7 +27,8 @@ all_at test [] e p l = absurd (omega arith)
 all_at test (q ∷ ps) e zero l = (and_both (test q) (all test ps) e).0
 all_at test (q ∷ ps) e (suc p) l = all_at test ps (and_both (test q) (all test ps) e).1 p (omega arith)
 
-pub refusal_stands : (sheet : List ℕ) {bad : BadInstruction} → sheet_refusal sheet ≡ Err (Refused (Image (Instruction bad))) → Stands sheet bad.program bad.instruction
+pub refusal_stands : (sheet : List ℕ) {bad : BadInstruction} → sheet_refusal sheet ≡ Err (Refused (Image (Instruction bad)))
+    → Stands sheet bad.program bad.instruction
 unfolding sheet_refusal programs_refusal few_programs short_programs programs_fault
 refusal_stands sheet {bad} e =
     let ps = programs_of sheet in

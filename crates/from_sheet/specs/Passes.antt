@@ -1,5 +1,6 @@
 -- How a sheet is gone through, line by line: what each pass has still to do. Assumes nothing.
-use Rattle.std.specs.Prelude.{ℕ, zero, suc, ◌+◌, ◌-◌, ◌≤◌, ◌<◌, max, ◌≡◌, Bool, true, cond, ◌&&◌, List, [], ◌∷◌, ◌++◌, map, eqb, leb, length, take, drop, Result, Ok, Err}
+use Rattle.std.specs.Prelude.{ℕ, zero, suc, ◌+◌, ◌-◌, ◌≤◌, ◌<◌, max, ◌≡◌, Bool, true, cond, ◌&&◌, List, [], ◌∷◌, ◌++◌}
+use Rattle.std.specs.Prelude.{map, eqb, leb, length, take, drop, Result, Ok, Err}
 use Rattle.text.specs.Writing.{Room}
 use Rattle.image.specs.Limits.{max_programs, max_program_bytes, max_bytes}
 use Rattle.image.specs.declared.refusals.BadInstruction.{BadInstruction}
@@ -112,6 +113,11 @@ found_at begun bytes (line.Rule r) = passed
 found_at begun bytes line.Program = program_fault (begun - 1) bytes
 found_at begun bytes (line.Instruction i) = passed
 found_at begun bytes line.Other = passed
+
+-- one name that opens what a line does
+unfoldable pub line_opened : Unit {0}
+unfolding body_of read_after begun_after found_at
+line_opened = tt
 
 -- What that needs: the room is one for the longest program, its bytes stand there, and no more have begun than there may be.
 pub record InRoom (room : List ℕ) (s : Reading) : Type 0 where

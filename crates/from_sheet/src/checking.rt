@@ -23,7 +23,7 @@ fn read_fault(room: &[u8], reading: Reading) -> Result<(), BadInstruction>
 }
 
 // A line more: where it begins a program, the one before it is looked at.
-#[tactic(auto, unfolding(crate::specs::Passes::found_at, crate::specs::Passes::read_after, crate::specs::Passes::begun_after, crate::specs::Passes::body_of))]
+#[tactic(auto, unfolding(crate::specs::Passes::line_opened))]
 fn read_line(
     room: &mut [u8],
     reading: Reading,
@@ -48,8 +48,7 @@ fn read_line(
                 begun: reading.begun,
             })
         }
-        sheet::Line::Rule(_) => Ok(reading),
-        sheet::Line::Other => Ok(reading),
+        sheet::Line::Rule(_) | sheet::Line::Other => Ok(reading),
     }
 }
 

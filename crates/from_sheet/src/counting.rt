@@ -57,12 +57,12 @@ fn counted(sizes: Sizes, line: sheet::Line) -> Sizes
             longest: sizes.longest.max(sizes.current + 1),
             ..sizes
         },
-        sheet::Line::Rule(_) => sizes,
-        sheet::Line::Other => sizes,
+        sheet::Line::Rule(_) | sheet::Line::Other => sizes,
     }
 }
 
-// Goes through a sheet until a line is not allowed, and answers with its number, from 1, or with the sizes.
+// Goes through a sheet until a line is not allowed, and answers with its number, from 1, or with the sizes. Where a line ends is asked here: the last part
+// is no line, and nothing may stand there.
 pub fn survey_of(sheet: &[u8]) -> Result<Sizes, usize>
     ensures { Surveys sheet.now result }
 {

@@ -27,7 +27,7 @@ fn begins(line: sheet::Line) -> bool
     matches!(line, sheet::Line::Program)
 }
 
-// The number of the line that begins program p, which is there, from 1; what is left are the lines behind it.
+// The number of the line that begins program p, which is there, from 1; what is left are the lines behind it. A `for` would not say what it leaves.
 fn beginning_of(lines: &mut Lines<'_>, p: usize) -> usize
     requires { (p < length (programs (lines_left lines.old))) × (p < 65536) × (length (lines_left lines.old) ≤ 2 ^ 63) }
     ensures { Begins (lines_left lines.old) p result (lines_left lines.new) }

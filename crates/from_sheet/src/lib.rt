@@ -35,7 +35,7 @@ fn programs_refusal(sheet: &[u8], sizes: Sizes) -> Result<(), ImageRefusal>
 }
 
 // The sizes of a sheet that is not refused: checks 51, 2, 3, 41 to 44.
-#[tactic(auto, using(crate::proofs::Says::sized), unfolding(crate::specs::FromSheet::sheet_refusal, image::specs::Refusals::check, image::specs::Refusals::given_as))]
+#[tactic(auto, using(crate::proofs::Says::sized), unfolding(crate::specs::FromSheet::sheet_refusal, image::specs::Opened::opened))]
 fn checked(sheet: &[u8]) -> Result<Sizes, Unwritten>
     ensures { Checks sheet.now result }
 {

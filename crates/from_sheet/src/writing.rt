@@ -23,8 +23,7 @@ fn put_offset(page: &mut Page, end: usize, line: sheet::Line) -> usize
             end
         }
         sheet::Line::Instruction(_) => end + image::Image::INSTRUCTION_BYTES,
-        sheet::Line::Rule(_) => end,
-        sheet::Line::Other => end,
+        sheet::Line::Rule(_) | sheet::Line::Other => end,
     }
 }
 

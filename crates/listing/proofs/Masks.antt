@@ -1,7 +1,7 @@
 -- Sets of programs as masks: one is taken out, a set is gone through, one is free. Assumes nothing.
 use mathlib.Core.Path.{◌≡◌, refl, sym, ◌∙◌, ap}
-use mathlib.Core.Logic.{◌⊎◌, inl, inr, ◌≢◌}
-use mathlib.Core.Bool.{Bool, true, false, not, cond, ◌&&◌}
+use mathlib.Core.Logic.{◌⊎◌, inl, inr}
+use mathlib.Core.Bool.{Bool, true, false, cond, ◌&&◌}
 use mathlib.Core.List.{List}
 use Prim.Native.Nat.{ℕ, ◌+◌, ◌/◌, ◌^◌, ◌<◌, ◌≤◌, suc, ◌-◌, ◌*◌}
 use native.Mathlib.Nat.{div-eq_of_lt, zero-div, mod_self, pow-suc}
@@ -16,7 +16,7 @@ use Rattle.base.specs.Masks.{word_bits, has_bit, mask_of, Least}
 use Rattle.base.proofs.Bools.{known, clash, not_true}
 use Rattle.base.proofs.Numbers.{none_first}
 use Rattle.base.proofs.Walks.{first_at}
-use Rattle.base.proofs.Masks.{differs, mask_lt, mask_ext, xor_masks, one_bit_lem, mask_has, has_mask, one_bit, shifted, mask_none, mask_append}
+use Rattle.base.proofs.Masks.{differs, mask_ext, xor_masks, one_bit_lem, mask_has, has_mask, one_bit, shifted, mask_none, mask_append}
 use Rattle.listing.specs.Order.{without}
 use Rattle.listing.specs.Masks.{free, Out}
 use Rattle.listing.proofs.Taken.{without_is, without_else}
@@ -111,11 +111,11 @@ pub unseen_start : (blockers : List ℕ) (left : ℕ) → Unseen blockers left l
 unfolding free
 unseen_start blockers left = record { part = λ j e. e; others = λ j e. rw e }
 
-module _ (blockers : List ℕ) (left rest : ℕ) (u : Unseen blockers left rest) where
+module _ {blockers : List ℕ} {left rest : ℕ} (u : Unseen blockers left rest) where
   pub unseen_end : rest ≡ 0 → first (free blockers left) word_bits ≡ 0
   unseen_end e = none_first (free blockers left) word_bits (λ j l. u.others j (none_in rest j e))
 
-  module _ (i rest' : ℕ) (o : Out rest i rest') where
+  module _ {i rest' : ℕ} (o : Out rest i rest') where
     free_is : free blockers left i ≡ eqb (bit_and (get_or blockers i 0) (bit_xor left (one_bit i))) 0
     unfolding free
     free_is = rw (shifted i o.few, u.part i o.smallest.member)

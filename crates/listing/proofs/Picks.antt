@@ -2,12 +2,12 @@
 use mathlib.Core.Path.{◌≡◌, refl, sym, ◌∙◌, ap}
 use mathlib.Core.Logic.{◌⊎◌, inl, inr}
 use mathlib.Core.Bool.{Bool, true, false, not, cond, ◌&&◌}
-use mathlib.Core.List.{List, [], ◌∷◌, ◌++◌}
+use mathlib.Core.List.{List, [], ◌∷◌}
 use Prim.Native.Nat.{ℕ, zero, suc, ◌^◌, ◌<◌, ◌≤◌}
 use native.Mathlib.Omega.{arith}
 use lib.Dec.{eqb}
 use lib.Bits.{bit_xor}
-use lib.ListN.{get_or, length, take, drop}
+use lib.ListN.{get_or, length}
 use borrow.Author.Tests.{eq-eqb, ne_eqb}
 use Rattle.base.specs.Words.{first, meets, count}
 use Rattle.base.proofs.Bools.{known, and_both, and_same}
@@ -85,8 +85,7 @@ module _ (n : ℕ) (reads stores : ℕ → List ℕ) (d : ℕ → Bool) (blocker
           ap (λ (z : List ℕ). i ∷ z)
           (rw (bit_out left n i t.0 u) (ih i (λ j h. sub j (and_both (left j) (not (eqb j i)) h).0)))
 
-module _ (T n : ℕ) (a : List ℕ) (blockers : List ℕ) (all : ℕ)
-    (few : n ≤ max_programs) (whole : CommittedSet T n all a) (masks : Blockers T all n a blockers) where
+module _ {T n all : ℕ} {a blockers : List ℕ} (few : n ≤ max_programs) (whole : CommittedSet T n all a) (masks : Blockers T all n a blockers) where
   picked : picks n blockers all ≡ order_of T n a
   unfolding reads_stored committed_reads order_of
   picked =
@@ -100,7 +99,7 @@ module _ (T n : ℕ) (a : List ℕ) (blockers : List ℕ) (all : ℕ)
   all_counted = rw whole.all_are (count_ext _ _ n (mask_has (in_group Committed T a) n))
 
   -- the programs that are picked are the order, where they are as many as are committed
-  module _ (order list : List ℕ) (k : ℕ) (is : order ≡ picks n blockers all) (counted : k ≡ count (has_bit all) n) where
+  module _ {order list : List ℕ} {k : ℕ} (is : order ≡ picks n blockers all) (counted : k ≡ count (has_bit all) n) where
     pub no_order_lem : (length order ≡ k → ⊥) → Lists T n a list (Err refusal.NoOrder) list
     unfolding listed_answer listed_list order_exists
     no_order_lem h =

@@ -6,24 +6,24 @@ use mathlib.Core.List.{List, [], ◌∷◌}
 use Prim.Native.Nat.{ℕ, suc, ◌+◌, ◌-◌, ◌*◌, ◌%◌, ◌^◌, ◌<◌, ◌≤◌}
 use native.Mathlib.Omega.{arith}
 use lib.Dec.{eqb}
-use lib.Bits.{bit_and, bit_or}
+use lib.Bits.{bit_or}
 use lib.ListN.{length, get_or, set, replicate, length-set, length-take, get_or-replicate}
 use lib.Seq.{get_or-set_same, get_or-set_other, get_or-take, get_or-drop}
-use borrow.Author.Tests.{eqb-true, eqb-false, eq-eqb}
+use borrow.Author.Tests.{eqb-true, eqb-false}
 use Rattle.std.specs.List.{All}
 use Rattle.std.proofs.lemmas.List.Elements.{All-from_get_or}
 use Rattle.base.specs.Words.{has, meets, words}
 use Rattle.base.specs.Masks.{word_bits, has_bit, mask_of}
 use Rattle.base.proofs.Bools.{known, clash}
-use Rattle.base.proofs.Masks.{mask_lt, mask_start, mask_next, mask_ext, mask_none, or_masks, bit_set, shifted_byte, bits_in}
+use Rattle.base.proofs.Masks.{mask_lt, mask_start, mask_next, mask_ext, mask_none, or_masks, bit_set, bits_in}
 use Rattle.image.specs.Limits.{max_programs, max_cells}
 use Rattle.slot.specs.declared.ListKind.{ListKind}
-use Rattle.slot.specs.declared.ListKind.TheVariants.{Reads, Stores}
+use Rattle.slot.specs.declared.ListKind.TheVariants.{Stores}
 use Rattle.slot.specs.declared.Group.TheVariants.{Committed}
 use Rattle.area.specs.Layout.{count_at, in_group, list_of, stores_of}
 use Rattle.area.specs.Checks.{Slotted}
 use Rattle.listing.specs.Masks.{Out, Slots, CommittedSet}
-use Rattle.listing.specs.Readers.{octet_size, with_bits, bits_for, committed_reads, reads_stored, Octet, ReadersOf, SetIn, Added, Blockers}
+use Rattle.listing.specs.Readers.{with_bits, bits_for, committed_reads, reads_stored, Octet, ReadersOf, SetIn, Added, Blockers}
 use Rattle.listing.proofs.Taken.{without_is, without_else}
 use Rattle.listing.proofs.Masks.{bit_below, none_in}
 
@@ -36,16 +36,6 @@ module _ (T k : ℕ) (a : List ℕ) where
       All-from_get_or (λ c. c < max_cells) _ 0
       (λ i h. let inside : i < get_or a (count_at l T k) 0 = omega (arith, simp length-take at h) in
       rw (get_or-take, get_or-drop) (omega (arith, s.inside l i inside, s.lies.cells_few)))
-
-  module _ (readers : List ℕ) where
-    pub no_reads : (bits : ℕ) → in_group Committed T a k ≡ false → with_bits bits (committed_reads T a k) readers ≡ readers
-    unfolding committed_reads
-    no_reads bits e = rw e
-
-    pub some_reads : (bit : ℕ) → bit < octet_size → in_group Committed T a k ≡ true
-        → with_bits ((1 * 2 ^ bit) % 2 ^ 8) (list_of Reads T k a) readers ≡ with_bits (2 ^ bit) (committed_reads T a k) readers
-    unfolding committed_reads
-    some_reads bit h d = rw (shifted_byte bit h, d)
 
 pub slots_below : (T n : ℕ) (a : List ℕ) (m : ℕ) → Slots a T n → m ≤ n → Slots a T m
 slots_below T n a m s h = record { few = omega (arith, s.few); slotted = λ k l. s.slotted k (omega arith) }
@@ -170,31 +160,27 @@ pub record Adding (T programs start : ℕ) (a readers before : List ℕ) (rest :
       → get_or l k 0 ≡ bit_or (get_or before k 0) ((bits_for readers 0 (stores_of T k a) * 2 ^ start) % 2 ^ word_bits)
   pub still : (k : ℕ) → has_bit rest k ≡ true → get_or l k 0 ≡ get_or before k 0
 
-module _ (T programs start : ℕ) (a readers before : List ℕ) where
-  pub adding_start : length before ≡ max_programs → Adding T programs start a readers before programs before
-  adding_start h = record { part = λ k e. e; long = h; done = λ k e f. clash e f; still = λ k e. refl }
+module _ {T programs start : ℕ} {a readers before : List ℕ} {rest : ℕ} {l : List ℕ} (t : Adding T programs start a readers before rest l) where
+  pub adding_end : rest ≡ 0 → Added T programs start a readers before l
+  adding_end e = record { long = t.long; more = λ i d. t.done i d (none_in rest i e) }
 
-  module _ (rest : ℕ) (l : List ℕ) (t : Adding T programs start a readers before rest l) where
-    pub adding_end : rest ≡ 0 → Added T programs start a readers before l
-    adding_end e = record { long = t.long; more = λ i d. t.done i d (none_in rest i e) }
+  pub adding_next : {i rest' found v : ℕ} → Out rest i rest' → found ≡ bits_for readers 0 (stores_of T i a) → v ≡ (found * 2 ^ start) % 2 ^ word_bits
+      → Adding T programs start a readers before rest' (set l i (bit_or (get_or l i 0) v))
+  adding_next {i} {rest'} {found} {v} o f e =
+      record {
+        part = λ k b. t.part k (inside k b).0;
+        long = length-set l i new ∙ t.long;
+        done = λ k d b. go k d (without_else i (has_bit rest) k (sym (o.others k) ∙ b));
+        still = λ k b. let w = inside k b in get_or-set_other l i k new 0 w.1 ∙ t.still k w.0;
+      }
+    where
+      new : ℕ
+      new = bit_or (get_or l i 0) v
 
-    pub adding_next : (i rest' found v : ℕ) → Out rest i rest' → found ≡ bits_for readers 0 (stores_of T i a)
-        → v ≡ (found * 2 ^ start) % 2 ^ word_bits → Adding T programs start a readers before rest' (set l i (bit_or (get_or l i 0) v))
-    adding_next i rest' found v o f e =
-        record {
-          part = λ k b. t.part k (inside k b).0;
-          long = length-set l i new ∙ t.long;
-          done = λ k d b. go k d (without_else i (has_bit rest) k (sym (o.others k) ∙ b));
-          still = λ k b. let w = inside k b in get_or-set_other l i k new 0 w.1 ∙ t.still k w.0;
-        }
-      where
-        new : ℕ
-        new = bit_or (get_or l i 0) v
+      inside : (k : ℕ) → has_bit rest' k ≡ true → (has_bit rest k ≡ true) × (k ≢ i)
+      inside k b = without_is i (has_bit rest) k (sym (o.others k) ∙ b)
 
-        inside : (k : ℕ) → has_bit rest' k ≡ true → (has_bit rest k ≡ true) × (k ≢ i)
-        inside k b = without_is i (has_bit rest) k (sym (o.others k) ∙ b)
-
-        go : (k : ℕ) → has_bit programs k ≡ true → (k ≡ i) ⊎ (has_bit rest k ≡ false)
-            → get_or (set l i new) k 0 ≡ bit_or (get_or before k 0) ((bits_for readers 0 (stores_of T k a) * 2 ^ start) % 2 ^ word_bits)
-        go k d (inl q) = rw (q, get_or-set_same l i new 0 (omega (arith, t.long, o.few)), t.still i o.smallest.member, e, f)
-        go k d (inr q) = get_or-set_other l i k new 0 (λ z. clash o.smallest.member (rw z at q)) ∙ t.done k d q
+      go : (k : ℕ) → has_bit programs k ≡ true → (k ≡ i) ⊎ (has_bit rest k ≡ false)
+          → get_or (set l i new) k 0 ≡ bit_or (get_or before k 0) ((bits_for readers 0 (stores_of T k a) * 2 ^ start) % 2 ^ word_bits)
+      go k d (inl q) = rw (q, get_or-set_same l i new 0 (omega (arith, t.long, o.few)), t.still i o.smallest.member, e, f)
+      go k d (inr q) = get_or-set_other l i k new 0 (λ z. clash o.smallest.member (rw z at q)) ∙ t.done k d q

@@ -6,7 +6,7 @@ use mathlib.Core.List.{List, [], ◌∷◌, ◌++◌, map}
 use lib.ListN.{take, drop, set, replicate}
 use Rattle.std.specs.Prelude.{Ok, Err}
 use Rattle.image.specs.declared.refusals.Refusal.TheVariants as refusal
-use Rattle.image.specs.Refusals.{refusing_at, refusing, Counted}
+use Rattle.image.specs.Refusals.{refusing_at, Counted}
 use Rattle.image.specs.Assembler.{instruction, end, program, image}
 use Rattle.image.specs.Bench.{x, y, z}
 use Rattle.guard.specs.Guards.{full_for}

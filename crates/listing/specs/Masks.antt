@@ -1,5 +1,5 @@
 -- The listed order over sets of programs as the bits of a number of 64, as the code goes. Assumes nothing.
-use Rattle.std.specs.Prelude.{◌≡◌, Bool, ◌&&◌, List, [], ℕ, zero, suc, ◌^◌, ◌<◌, ◌≤◌, eqb, length, get_or, take}
+use Rattle.std.specs.Prelude.{◌≡◌, Bool, ◌&&◌, List, [], ℕ, zero, suc, ◌^◌, ◌<◌, ◌≤◌, eqb, get_or}
 use Rattle.std.specs.Int.Bits.{bit_and, bit_xor}
 use Rattle.base.specs.Words.{first}
 use Rattle.base.specs.Masks.{word_bits, has_bit, mask_of, Least}

@@ -24,7 +24,8 @@ use Rattle.causes.specs.Causes.{cause_of}
 use Rattle.causes.proofs.Naming.{found}
 use Rattle.listing.specs.Listing.{committed_count, order_of, order_exists}
 use Rattle.listing.proofs.Taken.{listed_ext}
-use Rattle.promises.specs.Paper.{Batch, batch_of, keeps_stores, gets_settled, read_set, write_set, touches, commits, state_after, detail_after, table_after}
+use Rattle.promises.specs.Paper.{Batch, batch_of, keeps_stores, gets_settled, read_set, write_set, touches, commits}
+use Rattle.promises.specs.Paper.{state_after, detail_after, table_after}
 use Rattle.promises.specs.Laid.{World, all, paper_world}
 use Rattle.promises.specs.History.{RunToEnd}
 use Rattle.promises.specs.Causes.{TrueCause}
@@ -71,8 +72,8 @@ state_past : (T n k : ℕ) (a : List ℕ) → length a ≡ area_words T n → n 
 unfolding state_of
 state_past T n k a e l = get_or-eq_default a 0 {n = state_at T k} (omega arith)
 
--- all that is asked of the end here: the table is the paper's, the checks pass, each slot tells its program's state, detail, reads and stores, the marks
--- decide as the paper does, and the cells that they show are those of the runs
+-- all that is asked of the end here: the table is the paper's, the checks pass, each slot tells its program's state, detail, reads and stores, the
+-- marks decide as the paper does, and the cells that they show are those of the runs
 pub record PaperEnd (image t g : List ℕ) (w : World) : Type 0 where
   pub table_is : w.table ≡ table_after (batch_of image t g) t
   pub checks : Checked image w.table w.area
@@ -81,8 +82,10 @@ pub record PaperEnd (image t g : List ℕ) (w : World) : Type 0 where
   pub detail_is : (k : ℕ) → k < count_of image → detail_of (length t) k w.area ≡ detail_after (batch_of image t g) k
   pub reads_are : (k : ℕ) → k < count_of image → reads_of (length t) k w.area ≡ read_set (batch_of image t g) k
   pub stores_are : (k : ℕ) → k < count_of image → stores_of (length t) k w.area ≡ write_set (batch_of image t g) k
-  pub decides : (k : ℕ) → k < count_of image → gets_settled (batch_of image t g) k ≡ true → verdict image (length t) k w.area ≡ decision_on (batch_of image t g) k
-  pub depends_is : (k : ℕ) → k < count_of image → (l : ListKind) (m : MarkKind) → depends l m (length t) k w.area ≡ touches l (list_for m) (batch_of image t g) k
+  pub decides : (k : ℕ) → k < count_of image → gets_settled (batch_of image t g) k ≡ true
+      → verdict image (length t) k w.area ≡ decision_on (batch_of image t g) k
+  pub depends_is : (k : ℕ) → k < count_of image → (l : ListKind) (m : MarkKind)
+      → depends l m (length t) k w.area ≡ touches l (list_for m) (batch_of image t g) k
   pub causes : (k : ℕ) → k < count_of image → (l : ListKind) (m : MarkKind) → depends l m (length t) k w.area ≡ true
       → TrueCause l (list_for m) (batch_of image t g) k (cause_of l m (length t) k w.area)
 

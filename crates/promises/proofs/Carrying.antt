@@ -39,12 +39,14 @@ module _ {last : ℕ} {images tables guards : ℕ → List ℕ} {worlds : ℕ �
     next_stands : i < last → count (carried_in worlds i) q < count_of (images (suc i))
     unfolding carried_count
     next_stands h =
-        rw (batches.follows i h, next_count (images i) (worlds i).table (guards i) (worlds i).area (batches.fresh i) (batches.out i) (batches.accepted i h))
+        let many = next_count (images i) (worlds i).table (guards i) (worlds i).area (batches.fresh i) (batches.out i) (batches.accepted i h) in
+        rw (batches.follows i h, many)
         (let m = count_below (carried_in worlds i) (count_of (images i)) q l e in omega arith)
 
     next_same : i < last → part_of (images (suc i)) (count (carried_in worlds i) q) ≡ part_of (images i) q
     next_same h =
-        rw (batches.follows i h) (next_carried_at (images i) (worlds i).table (guards i) (worlds i).area (batches.fresh i) (batches.out i) (batches.accepted i h) q l e)
+        rw (batches.follows i h)
+        (next_carried_at (images i) (worlds i).table (guards i) (worlds i).area (batches.fresh i) (batches.out i) (batches.accepted i h) q l e)
 
 -- ---- the program that stood in place p of batch 0, with p + 1 batches
 
@@ -99,7 +101,9 @@ module _ {p : ℕ} {images tables guards : ℕ → List ℕ} {worlds : ℕ → W
     where
       go : (carried_in worlds i (place_of worlds p i) ≡ true) ⊎ (carried_in worlds i (place_of worlds p i) ≡ false)
           → (place_of worlds p (suc i) < m → Comes (suc i) → EndsWithin images worlds p) → EndsWithin images worlds p
-      go (inl e) ih = ih (omega (arith, next_smaller batches i (place_of worlds p i) (c.stands_so_far i (omega arith)) e (omega (arith, c.nearer)))) (comes_on i c e)
+      go (inl e) ih =
+          let smaller = next_smaller batches i (place_of worlds p i) (c.stands_so_far i (omega arith)) e (omega (arith, c.nearer)) in
+          ih (omega (arith, smaller)) (comes_on i c e)
       go (inr e) ih = ends_here i c e
 
   pub ends_within : p < count_of (images 0) → EndsWithin images worlds p

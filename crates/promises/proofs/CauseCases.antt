@@ -1,7 +1,7 @@
 -- Document 02, ask 3, tried by computation on the bench sheet, by the calls' own contracts. Assumes nothing.
 use Prim.Native.Nat.{ℕ}
 use mathlib.Core.Path.{◌≡◌, refl}
-use mathlib.Core.Bool.{true, false}
+use mathlib.Core.Bool.{Bool, true, false}
 use mathlib.Core.List.{List, [], ◌∷◌, ◌++◌, map}
 use Rattle.std.specs.Prelude.{Option, Some, None, Result, Ok, Err}
 use Rattle.base.specs.Words.{has}
@@ -58,7 +58,11 @@ unfolding opened causes.opened each_of
 case_9_whys = refl
 
 -- "13 this program is not carried", exactly where the paper does not carry it
-carried_in_example_1 : map (is_carried_in (batch_of (example_1 1) (9 ∷ 4 ∷ []) (full_for (9 ∷ 4 ∷ [])))) (0 ∷ 1 ∷ 2 ∷ []) ∷ map (is_carried_in (batch_of (example_1 2) (9 ∷ 4 ∷ []) (full_for (9 ∷ 4 ∷ [])))) (0 ∷ 1 ∷ 2 ∷ []) ∷ []
+-- who of the three is
+abbrev carried : (batch : List ℕ) → List Bool
+carried batch = map (is_carried_in (batch_of batch (9 ∷ 4 ∷ []) (full_for (9 ∷ 4 ∷ [])))) (0 ∷ 1 ∷ 2 ∷ [])
+
+carried_in_example_1 : carried (example_1 1) ∷ carried (example_1 2) ∷ []
     ≡ (false ∷ true ∷ true ∷ []) ∷ (false ∷ false ∷ true ∷ []) ∷ []
 unfolding opened
 carried_in_example_1 = refl
@@ -70,7 +74,8 @@ unfolding opened causes.opened each_of
 who_comes_before = refl
 
 -- to stand behind: 0 behind 1 in the order 1, 0 and not the other way round; nobody behind one that is not there
-stands_behind : behind 0 1 (1 ∷ 0 ∷ []) ∷ behind 1 0 (1 ∷ 0 ∷ []) ∷ behind 0 2 (1 ∷ 0 ∷ []) ∷ behind 2 1 (1 ∷ 0 ∷ []) ∷ behind 0 1 (2 ∷ 1 ∷ 3 ∷ 0 ∷ []) ∷ []
+stands_behind : behind 0 1 (1 ∷ 0 ∷ []) ∷ behind 1 0 (1 ∷ 0 ∷ []) ∷ behind 0 2 (1 ∷ 0 ∷ []) ∷ behind 2 1 (1 ∷ 0 ∷ [])
+    ∷ behind 0 1 (2 ∷ 1 ∷ 3 ∷ 0 ∷ []) ∷ []
     ≡ true ∷ false ∷ false ∷ false ∷ true ∷ []
 unfolding opened has
 stands_behind = refl

@@ -1,5 +1,5 @@
--- The cause that marks and slot show, at the end of a batch, is that of the programs' runs: each mark is 1 + the smallest program whose run has the cell.
--- Assumes nothing.
+-- The cause that marks and slot show, at the end of a batch, is that of the programs' runs: each mark is 1 + the smallest program whose run has the
+-- cell. Assumes nothing.
 use Prim.Native.Nat.{ℕ, ◌+◌, ◌-◌, ◌≤◌, ◌<◌}
 use mathlib.Core.Path.{◌≡◌, refl, sym, ap, ◌∙◌}
 use mathlib.Core.Bool.{Bool, true}

@@ -1,5 +1,5 @@
--- Before whom a program comes (document 02, ask 3, and what the listed order makes of it): the answer is true of the programs' own runs, and in the listed
--- order the program does not stand behind the one that it names. Assumes nothing.
+-- Before whom a program comes (document 02, ask 3, and what the listed order makes of it): the answer is true of the programs' own runs, and in the
+-- listed order the program does not stand behind the one that it names. Assumes nothing.
 use Prim.Native.Nat.{ℕ, ◌<◌}
 use mathlib.Core.Path.{◌≡◌, refl, sym, ◌∙◌}
 use mathlib.Core.Bool.{Bool, true, false}
@@ -45,7 +45,8 @@ module _ (image t g : List ℕ) (w : World) (run : RunToEnd image t g w) (k : �
   pub before_true : TrueBefore b k (before_answer image w.table g w.area k)
   unfolding before_answer before_of
   before_true =
-      rw (unless_done (ask_refusal image w.table g w.area k) Err (Ok (before_of (length w.table) k w.area)) (sym (asks image t g w run k number)), end_sized end)
+      let answer = Ok (before_of (length w.table) k w.area) in
+      rw (unless_done (ask_refusal image w.table g w.area k) Err answer (sym (asks image t g w run k number)), end_sized end)
       (go (depends Reads Write (length t) k w.area) refl)
     where
       go : (d : Bool) → depends Reads Write (length t) k w.area ≡ d → TrueBefore b k (Ok (before_of (length t) k w.area))

@@ -44,7 +44,8 @@ next_many T image a fresh =
     (ap (λ (m : ℕ). count (in_group Carried T a) (count_of image) + m) (count_all (λ k. true) (count_of fresh) (λ i l. refl)))
 
 next_bytes : (T : ℕ) (image a fresh : List ℕ)
-    → length (next_image T image a fresh) ≡ head_bytes (carried_count T (count_of image) a + count_of fresh) + length (joined (next_programs T image a fresh))
+    → length (next_image T image a fresh)
+    ≡ head_bytes (carried_count T (count_of image) a + count_of fresh) + length (joined (next_programs T image a fresh))
 unfolding next_image
 next_bytes T image a fresh = rw (length_image, next_many T image a fresh)
 

@@ -44,7 +44,10 @@ reason_has b k f e = grind arith
 -- two programs that commit store no common cell: the later one would have WAW
 pub no_common : (b : Batch) (j k : ℕ) → (j ≡ k → ⊥) → commits b j ≡ true → commits b k ≡ true → meets (write_set b j) (write_set b k) ≡ false
 unfolding touches
-no_common b j k apart cj ck = grind (arith, meets_swap (write_set b j) (write_set b k), some_none k (λ i. meets (write_set b k) (write_set b i)) (commits_waw b k ck) j, some_none j (λ i. meets (write_set b j) (write_set b i)) (commits_waw b j cj) k)
+no_common b j k apart cj ck =
+    let none_of_j = some_none j (λ i. meets (write_set b j) (write_set b i)) (commits_waw b j cj) k in
+    let none_of_k = some_none k (λ i. meets (write_set b k) (write_set b i)) (commits_waw b k ck) j in
+    grind (arith, meets_swap (write_set b j) (write_set b k))
 
 -- ---- the decision
 

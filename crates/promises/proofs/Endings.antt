@@ -34,7 +34,8 @@ module _ (image t g : List ℕ) (e : refusal_of image ≡ passed) (G S : ℕ →
   area = area_on b G S (length t)
 
   -- the area's own states say who is gathered and who is settled
-  pub says_itself : Phased (count_of image) G S → world_on image t g G S ≡ world_on image t g (gathered_in (length t) area) (settled_in (length t) area)
+  pub says_itself : Phased (count_of image) G S
+      → world_on image t g G S ≡ world_on image t g (gathered_in (length t) area) (settled_in (length t) area)
   unfolding Phased
   says_itself phased =
       world_ext image t g G S (gathered_in (length t) area) (settled_in (length t) area)
@@ -48,7 +49,8 @@ module _ (image t g : List ℕ) (e : refusal_of image ≡ passed) (G S : ℕ →
       (every_ext (count_of image) _ _ (λ k l. ap is_end (state_on b G S (length t) (runs_fit image t g e) k l) ∙ by_ended b k (G k) (S k)))
 
   -- it is over exactly when everybody is gathered and everybody who is to be settled is
-  pub over_shows : is_over image (world_on image t g G S) ≡ true → (k : ℕ) → k < count_of image → (G k ≡ true) × (gets_settled b k ≡ true → S k ≡ true)
+  pub over_shows : is_over image (world_on image t g G S) ≡ true → (k : ℕ) → k < count_of image
+      → (G k ≡ true) × (gets_settled b k ≡ true → S k ≡ true)
   over_shows h k l =
       let w = every_at (count_of image) _ (sym ended_is ∙ h) k l in
       (grind arith, λ f. grind arith)

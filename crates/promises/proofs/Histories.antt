@@ -1,5 +1,5 @@
--- Demand 2 and the first half of demand 3, both "with the same guards" (document 02, ask 5), and that only the rules act on the way: what any history of
--- the calls leaves. Assumes nothing.
+-- Demand 2 and the first half of demand 3, both "with the same guards" (document 02, ask 5), and that only the rules act on the way: what any history
+-- of the calls leaves. Assumes nothing.
 use mathlib.Core.Path.{◌≡◌, refl, sym, ap, ◌∙◌}
 use mathlib.Core.Bool.{true, false}
 use mathlib.Core.List.{List, ◌++◌, map}
@@ -25,7 +25,8 @@ use Rattle.promises.proofs.Installing.{table_opening}
 use Rattle.promises.proofs.SlotLaws.{state_by, detail_by, log_by}
 use Rattle.promises.proofs.Views.{Fitting, marks_on, slot_on_lem, gathered_on, log_on, state_on, detail_on, list_on, values_on}
 use Rattle.promises.proofs.Stepping.{opens, Phased, runs_fit, call_on}
-use Rattle.promises.proofs.Progress.{Progress, none_yet, moved_by, moved_append, gathered_keeps, gathers_gathered, settles_settled, gathers_each, settles_each}
+use Rattle.promises.proofs.Progress.{Progress, none_yet, moved_by, moved_append}
+use Rattle.promises.proofs.Progress.{gathered_keeps, gathers_gathered, settles_settled, gathers_each, settles_each}
 use Rattle.promises.proofs.Playing.{reached, reached_phased, world_reached}
 use Rattle.promises.proofs.Endings.{says_itself, over_is, over_paper, settled_gathered}
 
@@ -100,9 +101,9 @@ pub orders_whole : (image t g gathering settling : List ℕ) → ((k : ℕ) → 
 orders_whole image t g gathering settling each s =
     record { all_gathered = λ k l. gathers_each k gathering ∙ each k l; all_settled = λ k l f. settles_each k settling ∙ s k l f }
 
--- Demand 3: "Open a batch, gather every program once, then settle every gathered program once, in any two orders, refused steps between them included,
--- with nobody else changing image, table or work area. The end table, work area and listed order come out the same for all such orders." They are the
--- paper's, in whatever area each was opened.
+-- Demand 3: "Open a batch, gather every program once, then settle every gathered program once, in any two orders, refused steps between them
+-- included, with nobody else changing image, table or work area. The end table, work area and listed order come out the same for all such orders."
+-- They are the paper's, in whatever area each was opened.
 pub any_two_orders : (image t g found found' : List ℕ) → open_refusal image t g found ≡ passed → open_refusal image t g found' ≡ passed
     → (first second first' second' : List Step) → Whole image t g first second → Whole image t g first' second'
     → (v w : World) → v ≡ world_after image t g found (first ++ second) → w ≡ world_after image t g found' (first' ++ second')

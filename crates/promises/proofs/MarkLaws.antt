@@ -40,7 +40,9 @@ reserve_at [] k m c h = refl
 reserve_at (x ∷ cs) k m c h =
     let v = mark_of k in
     let u = lower (get_or m x 0) v in
-    grind (arith, reserve_at cs k (set m x u) c (lt-length-set m x u h), put_at m x v c h, lower_either (eqb c x) (has c cs) (get_or m c 0) v (omega arith))
+    let rest = reserve_at cs k (set m x u) c (lt-length-set m x u h) in
+    let both = lower_either (eqb c x) (has c cs) (get_or m c 0) v (omega arith) in
+    grind (arith, put_at m x v c h)
 
 -- ---- the mark is 1 + the smallest number of a gathered program that passes; with one more gathered it is lowered to that one's
 
@@ -78,7 +80,8 @@ marks_more cells gathered n k T l =
 
 -- ---- a mark that names an earlier program
 
--- Once everybody below n is gathered, a mark of one of the cells names a program earlier than k exactly when an earlier program has reserved one of them.
+-- Once everybody below n is gathered, a mark of one of the cells names a program earlier than k exactly when an earlier program has reserved one of
+-- them.
 pub hit_says : (at : ℕ) (cs : List ℕ) (k : ℕ) (a : List ℕ) (cells : ℕ → List ℕ) (gathered : ℕ → Bool) (n : ℕ) → k < n
     → ((j : ℕ) → j < n → gathered j ≡ true)
     → ((c : ℕ) → has c cs ≡ true → get_or a (at + c) 0 ≡ first (λ j. gathered j && has c (cells j)) n)

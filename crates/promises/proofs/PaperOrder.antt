@@ -20,8 +20,8 @@ use Rattle.promises.proofs.Conflicts.{commits_not_both, rule1_no_raw, no_raw_upw
 unfoldable pub paper_order : Batch → List ℕ
 paper_order b = listed b.programs b.programs (λ k. read_set b k) (λ k. write_set b k) (commits b)
 
--- Those with RAW come first, the largest number first, then the others by number: one without RAW reads nothing that an earlier one stores, one without
--- WAR stores nothing that an earlier one reads, and each that commits is without one of them.
+-- Those with RAW come first, the largest number first, then the others by number: one without RAW reads nothing that an earlier one stores, one
+-- without WAR stores nothing that an earlier one reads, and each that commits is without one of them.
 rank : Batch → ℕ → ℕ
 rank b k = cond (raw b k) (b.programs - k) (b.programs + k)
 

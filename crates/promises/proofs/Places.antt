@@ -1,6 +1,6 @@
--- Document 02, ask 2: ""Refused 4" on a long image costs us an evening. Split the number, and return program and instruction too." Of every call on an
--- image: a refusal of a bad instruction is the image's own, or the fresh image's, with its program and instruction; every other refusal has 0 and 0 there.
--- Assumes nothing.
+-- Document 02, ask 2: ""Refused 4" on a long image costs us an evening. Split the number, and return program and instruction too." Of every call on
+-- an image: a refusal of a bad instruction is the image's own, or the fresh image's, with its program and instruction; every other refusal has 0 and
+-- 0 there. Assumes nothing.
 use mathlib.Core.Path.{◌≡◌, refl}
 use mathlib.Core.Logic.{inl, inr}
 use mathlib.Core.Bool.{Bool, false}
@@ -92,7 +92,9 @@ module _ (image : List ℕ) where
 
     pub order_placed : (list : List ℕ) → Placed (InImage image) (order_refusal image t g a list)
     unfolding list_refusal order_refusal says_where
-    order_placed list = checked (InImage image) _ refusal.NoOrder refl (checked (InImage image) _ refusal.TooShort refl (ended (InImage image) image t g a own))
+    order_placed list =
+        checked (InImage image) _ refusal.NoOrder refl
+        (checked (InImage image) _ refusal.TooShort refl (ended (InImage image) image t g a own))
 
     pub next_placed : (fresh out : List ℕ) → Placed (InEither image fresh) (next_refusal image t g a fresh out)
     unfolding lent_refusal size_refusal next_refusal says_where

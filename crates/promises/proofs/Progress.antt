@@ -83,7 +83,9 @@ module _ (n : ℕ) where
     settles_settled [] p all e = absurd (cc)
     settles_settled (gather j ∷ h) p all e = settles_settled h (moved n (gather j) p) (λ i l. also_keeps j p.gathered i (all i l)) e
     settles_settled (settle j ∷ h) p all e =
-        grind (arith, eqb-true, every_from n p.gathered all, also_own k p.settled, settled_keeps h (moved n (settle j) p), settles_settled h (moved n (settle j) p) all)
+        let everybody = every_from n p.gathered all in
+        let then = moved n (settle j) p in
+        grind (arith, eqb-true, also_own k p.settled, settled_keeps h then, settles_settled h then all)
 
 -- ---- the steps of each program of a list
 

@@ -1,6 +1,6 @@
--- Demand 1: "A refusal gives its number from document 01 and changes nothing that was lent." Of every call: the answer is the refusal, the number is the
--- refusal's, every other number is 0, and the lent lists are as they were. That every call answers and ends, inside what it was lent, for any input at
--- all, is what the check of its function shows: no public call has a `requires`. Assumes nothing.
+-- Demand 1: "A refusal gives its number from document 01 and changes nothing that was lent." Of every call: the answer is the refusal, the number is
+-- the refusal's, every other number is 0, and the lent lists are as they were. That every call answers and ends, inside what it was lent, for any
+-- input at all, is what the check of its function shows: no public call has a `requires`. Assumes nothing.
 use Prim.Native.Nat.{ℕ}
 use mathlib.Core.Path.{◌≡◌, ap}
 use mathlib.Core.List.{List, []}

@@ -1,5 +1,5 @@
--- The serial run, with no area in sight: in an order where none reads what one before it stores, every program still finds the opening values where it
--- reads, so it runs as it did; and the tables agree because two committed programs never store one cell. Assumes nothing.
+-- The serial run, with no area in sight: in an order where none reads what one before it stores, every program still finds the opening values where
+-- it reads, so it runs as it did; and the tables agree because two committed programs never store one cell. Assumes nothing.
 use Prim.Native.Nat.{ℕ, ◌<◌}
 use mathlib.Core.Path.{◌≡◌, refl, sym, ◌∙◌, ap}
 use mathlib.Core.Bool.{Bool, true, false, not, ◌||◌}
@@ -53,14 +53,15 @@ module _ (image t g : List ℕ) where
       let e = kept_all o.answer o.log (commits_keeps (batch_of image t g) k (w.committing k (has_head k l))) in
       reads_decide (admits g) (part_of image k) t u w.sized (λ c h. w.opening k c (has_head k l) (ap (λ (m : Log). has c m.reads) e ∙ h))
 
-  to_run_next : (k : ℕ) (l u : List ℕ) → ToRun (k ∷ l) u → ToRun l (store_all (write_set (batch_of image t g) k) (new_values (batch_of image t g) k) u)
+  to_run_next : (k : ℕ) (l u : List ℕ) → ToRun (k ∷ l) u
+      → ToRun l (store_all (write_set (batch_of image t g) k) (new_values (batch_of image t g) k) u)
   to_run_next k l u w =
       let b = batch_of image t g in
       record {
         sized = w.sized ∙ sym (store_length (write_set b k) (new_values b k) u);
         opening = λ j c h r.
-            w.opening j c (has_tail j k l h) r
-            ∙ sym (store_other (write_set b k) (new_values b k) u c (not_true (λ s. clash (meets_in c (read_set b j) (write_set b k) r s) (w.ordered.0 j h))));
+            let kept = not_true (λ s. clash (meets_in c (read_set b j) (write_set b k) r s) (w.ordered.0 j h)) in
+            w.opening j c (has_tail j k l h) r ∙ sym (store_other (write_set b k) (new_values b k) u c kept);
         committing = λ j h. w.committing j (has_tail j k l h);
         ordered = w.ordered.1;
       }

@@ -1,6 +1,5 @@
 -- Sets of programs: nobody, and one more. Assumes nothing.
 use mathlib.Core.Path.{◌≡◌}
-use mathlib.Core.Logic.{◌⊎◌}
 use mathlib.Core.Bool.{Bool, true, false, ◌&&◌, ◌||◌}
 use Prim.Native.Nat.{ℕ}
 use native.Mathlib.Omega.{arith}
@@ -26,10 +25,6 @@ module _ (k : ℕ) (set : ℕ → Bool) where
   pub also_other : (j : ℕ) → (j ≡ k → ⊥) → also k set j ≡ set j
   unfolding also
   also_other j h = grind arith
-
-  pub also_cases : (j : ℕ) → also k set j ≡ true → (j ≡ k) ⊎ (set j ≡ true)
-  unfolding also
-  also_cases j h = grind (arith, eqb-true)
 
 -- one more, among those that pass a test
 module _ (k : ℕ) (set test : ℕ → Bool) where

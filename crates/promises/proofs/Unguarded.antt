@@ -1,5 +1,5 @@
--- Document 02, ask 5: "the batch program lends the full range". A batch with the full range for every cell is the batch of before, so that nothing has
--- changed for whoever uses no guards. Assumes nothing.
+-- Document 02, ask 5: "the batch program lends the full range". A batch with the full range for every cell is the batch of before, so that nothing
+-- has changed for whoever uses no guards. Assumes nothing.
 use Prim.Native.Nat.{ℕ, ◌^◌, ◌<◌}
 use mathlib.Core.Path.{◌≡◌, ap, ◌∙◌}
 use mathlib.Core.List.{List}
@@ -48,6 +48,8 @@ unfolding open_refusal room_refusal pairs_for free_refusal check
 free_checks image t g a pairs = rw (eq-eqb (length g) (guard_words (length t)) pairs)
 
 -- and what `batch` and `why` lend is that: the full range, a pair for each cell
-pub full_lent : (image t : List ℕ) → ((i : ℕ) → get_or image i 0 < 256) → ((i : ℕ) → get_or t i 0 < 2 ^ 32) → NoGuards image t (full_for t) × Paired t (full_for t)
+pub full_lent : (image t : List ℕ) → ((i : ℕ) → get_or image i 0 < 256) → ((i : ℕ) → get_or t i 0 < 2 ^ 32)
+    → NoGuards image t (full_for t) × Paired t (full_for t)
 full_lent image t bytes cells =
-    (record { bytes = bytes; cells = cells; full = full_range_lem (guard_words (length t)) (length t) (omega arith) }, tabulate_length full_end (guard_words (length t)))
+    let full = full_range_lem (guard_words (length t)) (length t) (omega arith) in
+    (record { bytes = bytes; cells = cells; full = full }, tabulate_length full_end (guard_words (length t)))

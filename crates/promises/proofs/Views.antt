@@ -1,4 +1,5 @@
--- The paper's batch laid out as an area, seen through the area's own views: its length, its marks, its slots, and what each slot says. Assumes nothing.
+-- The paper's batch laid out as an area, seen through the area's own views: its length, its marks, its slots, and what each slot says. Assumes
+-- nothing.
 use mathlib.Core.Path.{◌≡◌, refl, sym, ap, ◌∙◌}
 use mathlib.Core.Bool.{Bool, true, ◌&&◌}
 use mathlib.Core.List.{List, ◌++◌}
@@ -22,7 +23,8 @@ use Rattle.area.proofs.Views.{each_mark, state_in_slot, detail_in_slot, log_in_s
 use Rattle.area.proofs.Checks.{Passed, count_few}
 use Rattle.promises.specs.Paper.{Batch, sets, gets_settled}
 use Rattle.promises.specs.Laid.{mark_on, slot_on, slots_to, area_on, gathered_in, settled_in}
-use Rattle.promises.proofs.SlotLaws.{slot_ext, state_by, detail_by, log_by, slot_state, slot_detail, slot_length, slot_log, slot_passes, by_started, by_settled}
+use Rattle.promises.proofs.SlotLaws.{slot_ext, state_by, detail_by, log_by, by_started, by_settled}
+use Rattle.promises.proofs.SlotLaws.{slot_state, slot_detail, slot_length, slot_log, slot_passes}
 
 -- the log of each program of the batch fits a slot of a table of T cells
 unfoldable pub Fitting : Batch → ℕ → Type 0
@@ -81,8 +83,8 @@ module _ (b : Batch) (G S : ℕ → Bool) (T : ℕ) (fits : Fitting b T) where
   pub slot_on_lem : (k : ℕ) → k < b.programs → slot_at T k (area_on b G S T) ≡ slot_on b G S k
   unfolding area_on slot_at
   slot_on_lem k l =
-      words_right (tabulate (mark_on Write b G) T) (tabulate (mark_on Read b G) T ++ slots_to b G S b.programs) (slot_start T k) (T + slot_words * k) slot_words
-      (omega (arith, tabulate_length (mark_on Write b G) T))
+      words_right (tabulate (mark_on Write b G) T) (tabulate (mark_on Read b G) T ++ slots_to b G S b.programs)
+      (slot_start T k) (T + slot_words * k) slot_words (omega (arith, tabulate_length (mark_on Write b G) T))
       ∙ (words_right (tabulate (mark_on Read b G) T) (slots_to b G S b.programs) (T + slot_words * k) (slot_words * k) slot_words
       (omega (arith, tabulate_length (mark_on Read b G) T))
       ∙ slots_at b.programs k (omega arith) l)
@@ -116,8 +118,11 @@ module _ (b : Batch) (G S : ℕ → Bool) (T : ℕ) (fits : Fitting b T) where
     unfolding Fitting
     log_on = rw (slot_on_lem k l) (slot_log b G S T k (fits k l))
 
-    lists_on : record { reads = reads_of T k (area_on b G S T); cells = stores_of T k (area_on b G S T); values = values_of T k (area_on b G S T) } ≡ log_by b k (G k)
-    lists_on = sym (log_in_slot T k (area_on b G S T) (count_few T k (area_on b G S T) (on_passes.slots k l))) ∙ log_on
+    abbrev a : List ℕ
+    a = area_on b G S T
+
+    lists_on : record { reads = reads_of T k a; cells = stores_of T k a; values = values_of T k a } ≡ log_by b k (G k)
+    lists_on = sym (log_in_slot T k a (count_few T k a (on_passes.slots k l))) ∙ log_on
 
     pub list_on : (q : ListKind) → list_of q T k (area_on b G S T) ≡ cells_of q (log_by b k (G k))
     list_on = each_kind _ (ap (λ (x : Log). x.reads) lists_on) (ap (λ (x : Log). x.cells) lists_on)

@@ -1,5 +1,5 @@
--- Document 02, ask 3: "For a batch made by these calls, prove it of the programs' own runs from the opening table." The conclusions speak of the paper's
--- batch alone. Assumes nothing.
+-- Document 02, ask 3: "For a batch made by these calls, prove it of the programs' own runs from the opening table." The conclusions speak of the
+-- paper's batch alone. Assumes nothing.
 use Prim.Native.Nat.{ℕ, ◌<◌}
 use mathlib.Core.Path.{◌≡◌, refl, sym, ap, ◌∙◌}
 use mathlib.Core.Bool.{true, false, cond}

@@ -17,8 +17,8 @@ use Rattle.promises.proofs.Carrying.{ends_within}
 pub zero_never_carried : (image t g : List ℕ) (w : World) → RunToEnd image t g w → in_group Carried (length t) w.area 0 ≡ false
 zero_never_carried image t g w run = end_zero (paper_ends run)
 
--- "So where each batch is run to its end and the next is made by this step, a program in place p (from 0) is committed, rejected or faulted within p+1
--- batches."
+-- "So where each batch is run to its end and the next is made by this step, a program in place p (from 0) is committed, rejected or faulted within
+-- p+1 batches."
 pub within_batches : (p : ℕ) (images tables guards : ℕ → List ℕ) (worlds : ℕ → World) → Batches p images tables guards worlds
     → p < count_of (images 0) → EndsWithin images worlds p
 within_batches p images tables guards worlds batches l = ends_within batches l

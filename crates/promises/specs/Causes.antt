@@ -1,5 +1,5 @@
--- Document 02, ask 3, "prove it of the programs' own runs from the opening table": what it means that an answer is true of the paper's batch. There is no
--- work area in sight. Assumes nothing.
+-- Document 02, ask 3, "prove it of the programs' own runs from the opening table": what it means that an answer is true of the paper's batch. There
+-- is no work area in sight. Assumes nothing.
 use Rattle.std.specs.Prelude.{ℕ, ◌≤◌, ◌<◌, ◌≡◌, Bool, true, false, not, cond, ◌&&◌, List, [], ◌∷◌, eqb, Option, Some, None, Result, Ok, Err}
 use Rattle.base.specs.Words.{has}
 use Rattle.slot.specs.declared.ListKind.{ListKind}
@@ -16,8 +16,8 @@ use Rattle.promises.specs.Paper.{Batch, sets, keeps_stores, gets_settled, raw, c
 unfoldable pub is_carried_in : Batch → ℕ → Bool
 is_carried_in b k = gets_settled b k && not (commits b k)
 
--- A cell and an earlier program are the cause of a dependency of program k. `mine` is the kind of the set of k's run that has the cell, `theirs` that of
--- the other's run; the sets of a program that did not finish are empty.
+-- A cell and an earlier program are the cause of a dependency of program k. `mine` is the kind of the set of k's run that has the cell, `theirs` that
+-- of the other's run; the sets of a program that did not finish are empty.
 pub record TrueCause (mine theirs : ListKind) (b : Batch) (k : ℕ) (cause : Cause) : Type 0 where
   pub own_cell : has cause.cell (cells_of mine (sets b k)) ≡ true
   pub earlier : cause.program < k

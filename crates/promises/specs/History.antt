@@ -1,5 +1,5 @@
--- Histories: any list of steps, played from an opened batch by the calls' own contracts, "with nobody else changing image, table or work area", and "with the
--- same guards" (document 02, ask 5). A refused step changes nothing, as the contracts say. Assumes nothing.
+-- Histories: any list of steps, played from an opened batch by the calls' own contracts, "with nobody else changing image, table or work area", and
+-- "with the same guards" (document 02, ask 5). A refused step changes nothing, as the contracts say. Assumes nothing.
 use Rattle.std.specs.Prelude.{ℕ, ◌<◌, ◌≡◌, Bool, true, false, ◌||◌, List, [], ◌∷◌, eqb, length}
 use Rattle.image.specs.Image.{count_of}
 use Rattle.image.specs.Refusals.{passed}

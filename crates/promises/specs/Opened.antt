@@ -9,5 +9,6 @@ use Rattle.promises.specs.Serial.{serial_table, serial_runs}
 use Rattle.promises.specs.Causes.{is_carried_in, behind}
 
 unfoldable pub opened : Unit {0}
-unfolding some tabulate steps.opened listing.opened gets_settled touches commits reason state_after detail_after installed table_after mark_on slot_on slots_to area_on table_on after_step played opening is_over serial_table serial_runs is_carried_in behind
+unfolding some tabulate steps.opened listing.opened gets_settled touches commits reason state_after detail_after installed table_after mark_on slot_on
+    slots_to area_on table_on after_step played opening is_over serial_table serial_runs is_carried_in behind
 opened = tt

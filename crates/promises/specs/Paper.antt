@@ -1,5 +1,5 @@
--- The paper's batch: source 004, sections 4 and 5, Figures 4 and 7, with document 01's programs. There is no work area in sight. Every program runs once
--- from the opening table; what a program has against it is asked of every earlier program; those that commit are installed. Assumes nothing.
+-- The paper's batch: source 004, sections 4 and 5, Figures 4 and 7, with document 01's programs. There is no work area in sight. Every program runs
+-- once from the opening table; what a program has against it is asked of every earlier program; those that commit are installed. Assumes nothing.
 use Rattle.std.specs.Prelude.{ℕ, zero, suc, Bool, not, cond, ◌&&◌, List}
 use Rattle.base.specs.Words.{some, meets}
 use Rattle.image.specs.Image.{count_of, second_rule}

@@ -1,4 +1,5 @@
--- Document 02, ask 2: "return program and instruction too". What it means that a refusal has the place of a bad instruction, or none. Assumes nothing.
+-- Document 02, ask 2: "return program and instruction too". What it means that a refusal has the place of a bad instruction, or none. Assumes
+-- nothing.
 use Rattle.std.specs.Prelude.{◌≡◌, ◌⊎◌, true, false, List, ℕ, Result}
 use Rattle.image.specs.declared.refusals.Refusal.{Refusal}
 use Rattle.image.specs.Refusals.{refusing, told, says_where}

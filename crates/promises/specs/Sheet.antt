@@ -1,5 +1,5 @@
--- Document 01, "Bench sheet": cases 1 to 12, each with its image, its opening table and what is to come of it. Cells 0, 1, 2 are x, y, z. And the same of
--- guarded cells (document 02, ask 5). Assumes nothing.
+-- Document 01, "Bench sheet": cases 1 to 12, each with its image, its opening table and what is to come of it. Cells 0, 1, 2 are x, y, z. And the
+-- same of guarded cells (document 02, ask 5). Assumes nothing.
 use Rattle.std.specs.Prelude.{ℕ, zero, suc, ◌-◌, List, [], ◌∷◌, ◌++◌, length, replicate}
 use Rattle.base.specs.Words.{tabulate}
 use Rattle.image.specs.Image.{count_of}

@@ -37,10 +37,12 @@ module _ (sheet out : List ℕ) where
   unfolding image_of_answer image_of_output image_of_refusal
   image_written image is good fits =
       rw (← is)
-      (let e = sym (first_passes refl good (goes_on (Refused TooShort) (le-leb (length (image_of_sheet sheet)) (length out) (rw is fits)) refl)) in
+      (let room = le-leb (length (image_of_sheet sheet)) (length out) (rw is fits) in
+      let e = sym (first_passes refl good (goes_on (Refused TooShort) room refl)) in
       (unless_done _ _ _ e, unless_done _ _ _ e))
 
-  pub image_answered : (n : ℕ) (out' : List ℕ) → ImageOfSays sheet out (Ok n) out' → (sheet_refusal sheet ≡ passed) × Holds (image_of_sheet sheet) out out' n
+  pub image_answered : (n : ℕ) (out' : List ℕ) → ImageOfSays sheet out (Ok n) out'
+      → (sheet_refusal sheet ≡ passed) × Holds (image_of_sheet sheet) out out' n
   unfolding image_of_answer image_of_output image_of_refusal
   image_answered n out' s =
       let e = not_refused (image_of_refusal sheet out) n (length (image_of_sheet sheet)) s.answer in
@@ -54,11 +56,14 @@ module _ (image out : List ℕ) where
   unfolding sheet_of_answer sheet_of_output sheet_of_refusal
   sheet_written sheet is good fits =
       rw (← is)
-      (let e = sym (first_passes refl (given_passed Image good) (goes_on TooShort (le-leb (length (sheet_of_image image)) (length out) (rw is fits)) refl)) in
+      (let room = le-leb (length (sheet_of_image image)) (length out) (rw is fits) in
+      let e = sym (first_passes refl (given_passed Image good) (goes_on TooShort room refl)) in
       (unless_done _ _ _ e, unless_done _ _ _ e))
 
-  pub sheet_answered : (n : ℕ) (out' : List ℕ) → SheetOfSays image out (Ok n) out' → (refusal_of image ≡ passed) × Holds (sheet_of_image image) out out' n
+  pub sheet_answered : (n : ℕ) (out' : List ℕ) → SheetOfSays image out (Ok n) out'
+      → (refusal_of image ≡ passed) × Holds (sheet_of_image image) out out' n
   unfolding sheet_of_answer sheet_of_output sheet_of_refusal
   sheet_answered n out' s =
       let e = not_refused (sheet_of_refusal image out) n (length (sheet_of_image image)) s.answer in
-      (passed_given Image (refusal_of image) (none_after (image_checks image) _ e.0).0, record { many = e.1; begins = s.output ∙ unless_done _ _ _ e.0 })
+      let good = passed_given Image (refusal_of image) (none_after (image_checks image) _ e.0).0 in
+      (good, record { many = e.1; begins = s.output ∙ unless_done _ _ _ e.0 })

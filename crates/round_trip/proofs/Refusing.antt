@@ -18,7 +18,8 @@ use Rattle.sheet.specs.declared.Unwritten.{Unwritten}
 use Rattle.sheet.specs.declared.Unwritten.TheVariants.{Refused}
 use Rattle.sheet.specs.Answers.{TextNumbers, as_image, told_of_sheet, numbers_of_written, as_written}
 use Rattle.sheet.specs.Sheet.{bad_line}
-use Rattle.from_sheet.specs.FromSheet.{programs_of, programs_refusal, image_of_sheet, sheet_refusal, image_of_refusal, image_of_answer, image_of_output}
+use Rattle.from_sheet.specs.FromSheet.{programs_of, programs_refusal, image_of_sheet, sheet_refusal}
+use Rattle.from_sheet.specs.FromSheet.{image_of_refusal, image_of_answer, image_of_output}
 use Rattle.from_image.specs.FromImage.{sheet_of_refusal, sheet_of_answer, sheet_of_output}
 
 -- a refusal with its place, and 51 with a line
@@ -46,7 +47,8 @@ no_line (Ok done) false n written out e = (refl, refl)
 no_line (Err x) fits n written out e = (refl, refl)
 
 pub image_of_refused : (sheet out : List ℕ) → bad_line sheet ≡ 0 → {r : Unwritten} → image_of_refusal sheet out ≡ Err r
-    → (numbers_of_written (image_of_answer sheet out) ≡ refused_with (told_of_sheet (image_of_refusal sheet out)) 0) × (image_of_output sheet out ≡ out)
+    → (numbers_of_written (image_of_answer sheet out) ≡ refused_with (told_of_sheet (image_of_refusal sheet out)) 0)
+    × (image_of_output sheet out ≡ out)
 unfolding image_of_answer image_of_output image_of_refusal sheet_refusal check
 image_of_refused sheet out good e =
     let all = eq-eqb (bad_line sheet) 0 good in
@@ -55,5 +57,7 @@ image_of_refused sheet out good e =
 pub sheet_of_refused : (image out : List ℕ) {r : Refusal} → sheet_of_refusal image out ≡ Err r
     → (numbers_of_written (as_written (sheet_of_answer image out)) ≡ refused_with (numbers_of r) 0) × (sheet_of_output image out ≡ out)
 unfolding sheet_of_answer sheet_of_output
-sheet_of_refused image out e =
-    (ap (λ w. numbers_of_written (as_written w)) (unless_refused (sheet_of_refusal image out) _ _ e), unless_refused (sheet_of_refusal image out) _ _ e)
+sheet_of_refused image out e = (
+  ap (λ w. numbers_of_written (as_written w)) (unless_refused (sheet_of_refusal image out) _ _ e),
+  unless_refused (sheet_of_refusal image out) _ _ e,
+)

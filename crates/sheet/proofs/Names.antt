@@ -26,7 +26,11 @@ same_bytes (x ∷ xs) [] = refl
 same_bytes (x ∷ xs) (y ∷ ys) = ap (λ (b : Bool). eqb x y && b) (same_bytes xs ys)
 
 module _ (word : List ℕ) where
-  place_in : (all : List (Bor (List ℕ))) → position_or_len (λ name. bytes_eq word name.now) all ≡ position_or_len (λ name. same word name) (map (λ name. name.now) all)
+  -- its place in the table, as the code has that
+  abbrev place : List (Bor (List ℕ)) → ℕ
+  place all = position_or_len (λ name. bytes_eq word name.now) all
+
+  place_in : (all : List (Bor (List ℕ))) → place all ≡ position_or_len (λ name. same word name) (map (λ name. name.now) all)
   place_in [] = refl
   place_in (name ∷ all) = rw (same_bytes word name.now, place_in all)
 
@@ -37,11 +41,10 @@ module _ (word : List ℕ) where
       position_or_len_is (λ name. same word name) names (operation_of word) [] s.within
       (λ k l. not_true (λ e. absurd (omega (arith, s.low k (omega (arith, s.within)) e)))) s.passes
 
-  -- the table as the code has it
   pub named_in : (all : List (Bor (List ℕ))) → map (λ name. name.now) all ≡ names
-      → cond (ltb (position_or_len (λ name. bytes_eq word name.now) all) (length all)) (Some (position_or_len (λ name. bytes_eq word name.now) all)) None ≡ named word
+      → cond (ltb (place all) (length all)) (Some (place all)) None ≡ named word
   unfolding named names
   named_in all e =
       let long : length all ≡ operations = sym (length-map all (λ name. name.now)) ∙ ap length e in
-      let p : position_or_len (λ name. bytes_eq word name.now) all ≡ operation_of word = place_in all ∙ rw e place_is in
+      let p : place all ≡ operation_of word = place_in all ∙ rw e place_is in
       rw (p, long)

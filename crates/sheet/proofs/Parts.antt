@@ -50,8 +50,8 @@ module _ (separator : ℕ) where
   cut_next [] h = absurd (omega arith)
   cut_next (x ∷ xs) h = go (eqb x separator) h (cut_next xs)
     where
-      go : (b : Bool) → let n = cond (not b) (1 + before separator xs) 0 in n < length (x ∷ xs)
-          → (before separator xs < length xs → split separator xs ≡ take (before separator xs) xs ∷ split separator (drop (before separator xs + 1) xs))
+      go : (b : Bool) → let k = before separator xs in let n = cond (not b) (1 + k) 0 in n < length (x ∷ xs)
+          → (k < length xs → split separator xs ≡ take k xs ∷ split separator (drop (k + 1) xs))
           → cond b ([] ∷ split separator xs) (onto x (split separator xs)) ≡ take n (x ∷ xs) ∷ split separator (drop (n + 1) (x ∷ xs))
       go true h ih = refl
       go false h ih =

@@ -38,7 +38,8 @@ module _ (text : List ℕ) (first : ℕ) (e : Ends space text 0 first) where
 
       module _ (n : third < length text) (fourth : ℕ) (h : Ends space text (third + 1) fourth) where
         pub four_words : fourth ≡ length text
-            → instruction_line (front text first) (word text (first + 1) second) (word text (second + 1) third) (word text (third + 1) fourth) ≡ line_of text
+            → instruction_line (front text first) (word text (first + 1) second) (word text (second + 1) third) (word text (third + 1) fourth)
+            ≡ line_of text
         unfolding words line_of by_words
         four_words o = rw (e.more l, from_front, f.more m, g.more n, h.last o)
 

@@ -38,8 +38,8 @@ pub enum Line {
     Other,
 }
 
-// Why a call that reads a sheet or an image and writes the other writes nothing: as other calls, or for a line that its place does not allow, with its
-// number, from 1.
+// Why a call that reads a sheet or an image and writes the other writes nothing: as other calls, or for a line that its place does not allow, with
+// its number, from 1.
 #[derive(Clone, Copy, PartialEq, Eq)]
 pub enum Unwritten {
     Refused(Refusal),

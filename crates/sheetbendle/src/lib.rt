@@ -7,8 +7,8 @@
 //   order        lists the committed programs in an order in which running them one after another gives the same table.
 //   next_image   makes the next batch's image: the carried programs, then those of a fresh image.
 //
-// The guards are two words for each cell, its low end and then its high one, read as signed numbers: a program that stores a value below low or above high
-// faults. `full_range` makes a list that lets every value in. Each of the calls above is lent the same guards.
+// The guards are two words for each cell, its low end and then its high one, read as signed numbers: a program that stores a value below low or above
+// high faults. `full_range` makes a list that lets every value in. Each of the calls above is lent the same guards.
 // Once all are settled, `why` says why a program was carried, and `comes_before` before whom a program comes that read a cell as it was.
 // A sheet is an image as a text that can be typed: `image_of` reads a sheet and writes its image, `sheet_of` reads an image and writes its sheet.
 // Beside these, `program` hands back one program as a part of the image, and `program_refusal` says why it does not.
@@ -55,8 +55,8 @@ pub const LOWEST: u32 = guard::LOWEST;
 
 pub const HIGHEST: u32 = guard::HIGHEST;
 
-// A faulted program's detail is KIND_UNIT × kind + instruction number; the kinds are a load and a store of a cell outside the table, and a store that a
-// guard does not admit.
+// A faulted program's detail is KIND_UNIT × kind + instruction number; the kinds are a load and a store of a cell outside the table, and a store that
+// a guard does not admit.
 pub const KIND_UNIT: u32 = machine::KIND_UNIT;
 
 pub const LOAD_FAULT: u8 = machine::LOAD_FAULT;

@@ -1,5 +1,5 @@
--- Document 01, "What each refusal says", tried by computation on the calls for C: each number stands under its own name, and the memory is what the call
--- leaves. Assumes nothing.
+-- Document 01, "What each refusal says", tried by computation on the calls for C: each number stands under its own name, and the memory is what the
+-- call leaves. Assumes nothing.
 use Prim.Native.Nat.{ℕ}
 use mathlib.Core.Path.{◌≡◌, refl}
 use mathlib.Core.List.{List, [], ◌∷◌, ◌++◌}
@@ -18,7 +18,8 @@ use Rattle.numbers.specs.Numbers.{CountTells}
 use Rattle.text.specs.Ascii.{ascii}
 use Rattle.from_sheet.specs.Opened as from_sheet
 use Rattle.from_image.specs.Opened as from_image
-use Rattle.sheetbendle_c.specs.Calls.{PartTells, ProgramRefusalTells, OpenTells, GatherTells, SettleTells, WhyTells, OrderTells, NextTells, line_shown, ImageOfTells, SheetOfTells}
+use Rattle.sheetbendle_c.specs.Calls.{PartTells, ProgramRefusalTells, OpenTells, GatherTells, SettleTells, WhyTells, OrderTells, NextTells}
+use Rattle.sheetbendle_c.specs.Calls.{line_shown, ImageOfTells, SheetOfTells}
 
 -- of two programs, number 1 begins at byte 14 and has 8 bytes; there is no number 2
 abbrev two : List ℕ
@@ -32,7 +33,8 @@ program_tells : PartTells two 1 (record { start = 14; length = 8 }) × PartTells
 unfolding images.opened
 program_tells = (record { start = refl; extent = refl }, record { start = refl; extent = refl })
 
-program_refusal_tells : ProgramRefusalTells two 1 (refusing 0) × ProgramRefusalTells two 2 (refusing 8) × ProgramRefusalTells bad 2 (refusing_at 42 1 1)
+program_refusal_tells : ProgramRefusalTells two 1 (refusing 0) × ProgramRefusalTells two 2 (refusing 8)
+    × ProgramRefusalTells bad 2 (refusing_at 42 1 1)
 unfolding images.opened
 program_refusal_tells = (record { refusal = refl }, record { refusal = refl }, record { refusal = refl })
 
@@ -48,15 +50,16 @@ unfolding steps.opened
 open_tells = (record { refusal = refl; area = refl }, record { refusal = refl; area = refl }, record { refusal = refl; area = refl })
 
 -- one program on one cell: it rejects with 7; it has stored 60 and is committed, and listed; it is carried
-gather_tells : GatherTells (image 1 (program (reject 7 ∷ []) ∷ [])) (5 ∷ []) (1 ∷ 0 ∷ []) (replicate 102 0) 0 (record { refusal = refusing 0; state = 2; detail = 7 })
-    (area (0 ∷ []) (0 ∷ []) (slot 2 7 [] [] [] ∷ []))
+gather_tells : GatherTells (image 1 (program (reject 7 ∷ []) ∷ [])) (5 ∷ []) (1 ∷ 0 ∷ []) (replicate 102 0) 0
+    (record { refusal = refusing 0; state = 2; detail = 7 }) (area (0 ∷ []) (0 ∷ []) (slot 2 7 [] [] [] ∷ []))
 unfolding steps.opened
 gather_tells = record { numbers = record { refusal = refl; state = refl; detail = refl }; area = refl }
 
 abbrev storing : ℕ → List ℕ
 storing state = area (1 ∷ []) (0 ∷ []) (slot state 0 [] (0 ∷ []) (60 ∷ []) ∷ [])
 
-settle_tells : SettleTells (image 1 ([] ∷ [])) (5 ∷ []) (1 ∷ 0 ∷ []) (storing 1) 0 (record { refusal = refusing 0; state = 4; detail = 0 }) (60 ∷ []) (storing 4)
+settle_tells : SettleTells (image 1 ([] ∷ [])) (5 ∷ []) (1 ∷ 0 ∷ []) (storing 1) 0
+    (record { refusal = refusing 0; state = 4; detail = 0 }) (60 ∷ []) (storing 4)
 unfolding steps.opened
 settle_tells = record { numbers = record { refusal = refl; state = refl; detail = refl }; table = refl; area = refl }
 
@@ -64,8 +67,10 @@ settle_tells = record { numbers = record { refusal = refl; state = refl; detail 
 abbrev waited : List ℕ
 waited = area (1 ∷ []) (2 ∷ []) (slot 4 0 [] (0 ∷ []) (60 ∷ []) ∷ slot 5 2 (0 ∷ []) [] [] ∷ [])
 
-why_tells : WhyTells (image 1 ([] ∷ [] ∷ [])) (5 ∷ []) (1 ∷ 0 ∷ []) waited 1 (record { refusal = refusing 0; reason = 2; cell = 0; program = 0; war_cell = 0; war_program = 0 })
-    × WhyTells (image 1 ([] ∷ [] ∷ [])) (5 ∷ []) (1 ∷ 0 ∷ []) waited 0 (record { refusal = refusing 13; reason = 0; cell = 0; program = 0; war_cell = 0; war_program = 0 })
+why_tells : WhyTells (image 1 ([] ∷ [] ∷ [])) (5 ∷ []) (1 ∷ 0 ∷ []) waited 1
+    (record { refusal = refusing 0; reason = 2; cell = 0; program = 0; war_cell = 0; war_program = 0 })
+    × WhyTells (image 1 ([] ∷ [] ∷ [])) (5 ∷ []) (1 ∷ 0 ∷ []) waited 0
+    (record { refusal = refusing 13; reason = 0; cell = 0; program = 0; war_cell = 0; war_program = 0 })
 unfolding causes.opened
 why_tells = (
   record { numbers = record { refusal = refl; reason = refl; cell = refl; program = refl; war_cell = refl; war_program = refl } },
@@ -76,7 +81,8 @@ order_tells : OrderTells (image 1 ([] ∷ [])) (5 ∷ []) (1 ∷ 0 ∷ []) (stor
 unfolding listing.opened
 order_tells = record { numbers = record { refusal = refl; count = refl }; entries = refl }
 
-next_tells : NextTells (image 1 ([] ∷ [])) (5 ∷ []) (1 ∷ 0 ∷ []) (storing 5) (image 2 []) (replicate 9 9) (record { refusal = refusing 0; count = 8 }) (image 2 ([] ∷ []) ++ (9 ∷ []))
+next_tells : NextTells (image 1 ([] ∷ [])) (5 ∷ []) (1 ∷ 0 ∷ []) (storing 5) (image 2 []) (replicate 9 9)
+    (record { refusal = refusing 0; count = 8 }) (image 2 ([] ∷ []) ++ (9 ∷ []))
 unfolding carry.opened
 next_tells = record { numbers = record { refusal = refl; count = refl }; bytes = refl }
 
@@ -84,7 +90,8 @@ next_tells = record { numbers = record { refusal = refl; count = refl }; bytes =
 lines_shown : line_shown 4294967295 ∷ line_shown 4294967296 ∷ line_shown 8589934592 ∷ [] ≡ 4294967295 ∷ 4294967295 ∷ 4294967295 ∷ []
 lines_shown = refl
 
-image_of_tells : ImageOfTells (ascii "rule 2\n") (replicate 7 9) (record { refusal = refusing 0; length = 6; line = 0 }) (0 ∷ 0 ∷ 2 ∷ 0 ∷ 6 ∷ 0 ∷ 9 ∷ [])
+image_of_tells : ImageOfTells (ascii "rule 2\n") (replicate 7 9)
+    (record { refusal = refusing 0; length = 6; line = 0 }) (0 ∷ 0 ∷ 2 ∷ 0 ∷ 6 ∷ 0 ∷ 9 ∷ [])
     × ImageOfTells (ascii "rule 2\nprogram\nend\n") (9 ∷ []) (record { refusal = refusing 51; length = 0; line = 3 }) (9 ∷ [])
     × ImageOfTells (ascii "rule 2\n") (9 ∷ []) (record { refusal = refusing 10; length = 0; line = 0 }) (9 ∷ [])
 unfolding from_sheet.opened

@@ -6,12 +6,11 @@ use native.Mathlib.Omega.{arith}
 use lib.Dec.{leb}
 use lib.ListN.{length, get_or}
 use borrow.Author.Tests.{leb-true, eqb-true}
-use Rattle.std.specs.Prelude.{Result, Ok, Err}
+use Rattle.std.specs.Prelude.{Ok, Err}
 use Rattle.base.specs.Words.{count}
 use Rattle.base.proofs.Bools.{and_right}
 use Rattle.base.proofs.Counts.{count_le}
 use Rattle.image.specs.Limits.{min_bytes, max_bytes}
-use Rattle.image.specs.declared.refusals.Refusal.{Refusal}
 use Rattle.image.specs.declared.refusals.Refusal.TheVariants.{NoOrder}
 use Rattle.image.specs.Refusals.{passed, numbers_of_count}
 use Rattle.image.specs.Image.{count_of, size_good}
@@ -23,7 +22,6 @@ use Rattle.listing.specs.Listing.{committed_count, order_of, order_exists, list_
 use Rattle.listing.proofs.Orders.{list_shows}
 use Rattle.carry.specs.Next.{next_image, next_refusal, next_answer}
 use Rattle.carry.proofs.Nexts.{next_good}
-use Rattle.sheet.specs.Answers.{numbers_of_written, as_written}
 use Rattle.from_image.specs.FromImage.{sheet_of_answer}
 use Rattle.from_image.specs.Longest.{longest_sheet}
 use Rattle.from_image.proofs.Longest.{sheet_small}
@@ -32,7 +30,8 @@ few_listed : (image t g a list : List ℕ) → order_refusal image t g a list �
 unfolding order_refusal order_exists committed_count
 few_listed image t g a list e =
     let w = none_after (list_refusal image t g a list) _ e in
-    let full = eqb-true (length (order_of (length t) (count_of image) a)) (count (in_group Committed (length t) a) (count_of image)) (none_fails (order_exists (length t) (count_of image) a) NoOrder _ w.1).0 in
+    let exists = (none_fails (order_exists (length t) (count_of image) a) NoOrder _ w.1).0 in
+    let full = eqb-true (length (order_of (length t) (count_of image) a)) (count (in_group Committed (length t) a) (count_of image)) exists in
     omega (arith, full, count_le (in_group Committed (length t) a) (count_of image), (list_shows image t g a list w.0).0.programs)
 
 pub order_small : (image t g a list : List ℕ) → (numbers_of_count (order_answer image t g a list)).count < 2 ^ 32
@@ -44,13 +43,14 @@ short_next : (image t g a fresh out : List ℕ) → next_refusal image t g a fre
 unfolding size_good
 short_next image t g a fresh out e =
     let i = next_image (length t) image a fresh in
-    let short : length i ≤ max_bytes = leb-true (length i) max_bytes (and_right (leb min_bytes (length i)) (leb (length i) max_bytes) (accepted i (next_good image t g a fresh out e)).size) in
-    omega arith
+    let size = (accepted i (next_good image t g a fresh out e)).size in
+    omega (arith, leb-true (length i) max_bytes (and_right (leb min_bytes (length i)) (leb (length i) max_bytes) size))
 
 pub next_small : (image t g a fresh out : List ℕ) → (numbers_of_count (next_answer image t g a fresh out)).count < 2 ^ 32
 unfolding next_answer
 next_small image t g a fresh out =
-    unless_either (λ x. (numbers_of_count x).count < 2 ^ 32) (next_refusal image t g a fresh out) Err _ (λ r h. omega arith) (short_next image t g a fresh out)
+    unless_either (λ x. (numbers_of_count x).count < 2 ^ 32) (next_refusal image t g a fresh out) Err _ (λ r h. omega arith)
+    (short_next image t g a fresh out)
 
 pub sheet_of_small : (image out : List ℕ) → ((i : ℕ) → get_or image i 0 < 256) → {n : ℕ} → Ok n ≡ sheet_of_answer image out → n < 2 ^ 32
 unfolding longest_sheet

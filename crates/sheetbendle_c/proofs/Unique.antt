@@ -1,5 +1,5 @@
--- No second result: for each call for C, two outcomes that meet its contract at the same arguments look the same, the lent memory at the exit included.
--- Assumes nothing.
+-- No second result: for each call for C, two outcomes that meet its contract at the same arguments look the same, the lent memory at the exit
+-- included. Assumes nothing.
 use mathlib.Core.List.{List}
 use Prim.Native.Nat.{ℕ}
 use mathlib.Core.Path.{◌≡◌, sym, ◌∙◌}

@@ -9,8 +9,9 @@ use Rattle.from_image.proofs.put_instructions.Goals as goal
 pub put_instruction_line-requires : goal.put_instruction_line-requires
 put_instruction_line-requires c =
     let p = c.args.program.now in
+    let room = rw (first_texts p (instructions_of p)) at c.requires.1 in
     rw c.instruction_at.ensures
-    (named_at p c.requires.0.code c.loop-i.i (omega arith), text_room (instruction_text p) (omega arith) c.loop-i.invariant (rw (first_texts p (instructions_of p)) at c.requires.1))
+    (named_at p c.requires.0.code c.loop-i.i (omega arith), text_room (instruction_text p) (omega arith) c.loop-i.invariant room)
 
 pub loop-i-preserved : goal.loop-i-preserved
 loop-i-preserved c =

@@ -15,12 +15,14 @@ fits c = rw (c.new-page.ensures.same, c.new-page.ensures.front) c.requires.1
 
 pub put_rule_line-requires : goal.put_rule_line-requires
 put_rule_line-requires c =
-    room_first _ _ (rw (sheet_text_lem c.args.image.now {n = count_of c.args.image.now} refl c.rule.ensures) at (fits (goal.at.put_rule_line-requires c).After-new-page))
+    let e = sheet_text_lem c.args.image.now {n = count_of c.args.image.now} refl c.rule.ensures in
+    room_first _ _ (rw e at (fits (goal.at.put_rule_line-requires c).After-new-page))
 
 pub put_programs-requires : goal.put_programs-requires
 put_programs-requires c =
     let e = sheet_text_lem c.args.image.now c.count.ensures.0 c.rule.ensures in
-    (good_programs c.args.image.now c.count.ensures.0 c.requires.0, put_room (rw e at (fits (goal.at.put_programs-requires c).After-new-page)) c.put_rule_line.ensures)
+    let room = rw e at (fits (goal.at.put_programs-requires c).After-new-page) in
+    (good_programs c.args.image.now c.count.ensures.0 c.requires.0, put_room room c.put_rule_line.ensures)
 
 pub returns : goal.returns
 returns c =

@@ -1,4 +1,5 @@
--- A refusal is answered and the output is left; otherwise the checks have shown what `write_image` needs, and its length is the answer. Assumes nothing.
+-- A refusal is answered and the output is left; otherwise the checks have shown what `write_image` needs, and its length is the answer.
+-- Assumes nothing.
 use Prim.Native.Nat.{◌≤◌, ◌<◌}
 use lib.ListN.{length}
 use borrow.Author.Rules.{rules}

@@ -9,7 +9,8 @@ use Rattle.from_sheet.proofs.checking.first_fault.Goals as goal
 pub read_line-requires : goal.read_line-requires
 read_line-requires c =
     let i = c.loop-line.invariant in
-    (i.0, omega (arith, readable_room _ _ _ _ (rw c.in-Some.ensures.steps at i.1), length-take-le c.loop-line.reading.used c.loop-line.room i.0.used_few, i.0.long))
+    let room = readable_room _ _ _ _ (rw c.in-Some.ensures.steps at i.1) in
+    (i.0, omega (arith, room, length-take-le c.loop-line.reading.used c.loop-line.room i.0.used_few, i.0.long))
 
 pub returns-in_err-reading : goal.returns-in_err-reading
 returns-in_err-reading c =

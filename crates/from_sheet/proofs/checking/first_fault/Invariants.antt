@@ -1,5 +1,5 @@
--- The loop's invariant: what is still to be found, in the program that is being read and in those to come, is the sheet's first fault; and they can be read.
--- Assumes nothing.
+-- The loop's invariant: what is still to be found, in the program that is being read and in those to come, is the sheet's first fault; and they can be
+-- read. Assumes nothing.
 use mathlib.Core.Path.{◌≡◌}
 use mathlib.Core.List.{[]}
 use lib.ListN.{take}

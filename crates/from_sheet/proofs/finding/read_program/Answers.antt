@@ -16,7 +16,8 @@ put_body-requires c =
 
 pub loop-line-preserved : goal.loop-line-preserved
 loop-line-preserved c =
-    partly_more c.loop-line.invariant _ _ (ap leading c.in-Some.ensures.steps ∙ leading_next _ _ (sym c.begins.ensures ∙ c.if-begins.false)) c.put_body.ensures
+    let piece = ap leading c.in-Some.ensures.steps ∙ leading_next _ _ (sym c.begins.ensures ∙ c.if-begins.false) in
+    partly_more c.loop-line.invariant _ _ piece c.put_body.ensures
 
 pub returns : goal.returns
 returns c =

@@ -35,4 +35,5 @@ wrong_in-requires c = rw (found (goal.at.wrong_in-requires c).After-beginning_of
 
 pub returns : goal.returns
 returns c =
-    wrong_line_is _ _ _ (rw c.of-lines.ensures at c.beginning_of-begun.ensures) (found (goal.at.returns c).After-beginning_of-begun) c.wrong_in.ensures
+    let begun = rw c.of-lines.ensures at c.beginning_of-begun.ensures in
+    wrong_line_is _ _ _ begun (found (goal.at.returns c).After-beginning_of-begun) c.wrong_in.ensures

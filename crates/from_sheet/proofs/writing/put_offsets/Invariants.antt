@@ -1,5 +1,5 @@
--- The loop's invariant: the offsets of the lines that have come stand there, and the program that is being read ends where its instructions so far do.
--- Assumes nothing.
+-- The loop's invariant: the offsets of the lines that have come stand there, and the program that is being read ends where its instructions so far
+-- do. Assumes nothing.
 use Prim.Native.Nat.{◌≤◌, ◌+◌}
 use lib.ListN.{length}
 use Rattle.text.proofs.Pages.{Partly}

@@ -16,7 +16,8 @@ use Rattle.sheet.proofs.reading.operation_of.Goals.{After-position}
 found : (c : After-position) → c.position.result ≡ named c.args.word.now
 unfolding names
 found c =
-    position_from_yields_List (λ (name : Bor (List ℕ)). bytes_eq c.args.word.now name.now) _ _ _ c.position.ensures.ran (YieldsList-from_slice c.iter.result.rest.now refl) (λ x b q k. search (rules, tests))
+    position_from_yields_List (λ (name : Bor (List ℕ)). bytes_eq c.args.word.now name.now) _ _ _ c.position.ensures.ran
+    (YieldsList-from_slice c.iter.result.rest.now refl) (λ x b q k. search (rules, tests))
     ∙ named_in c.args.word.now c.iter.result.rest.now (rw c.iter.ensures.rest)
 
 pub returns-in_err-op : goal.returns-in_err-op

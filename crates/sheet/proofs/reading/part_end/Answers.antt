@@ -13,7 +13,8 @@ use Rattle.sheet.proofs.reading.part_end.Goals.{After-position}
 
 found : (c : After-position) → c.position.result ≡ position (λ x. eqb x c.args.separator) (drop c.args.at c.args.text.now)
 found c =
-    position_from_yields_List (λ x. eqb x c.args.separator) _ _ _ c.position.ensures.ran (YieldsList-from_slice (drop c.args.at c.args.text.now) (c.iter.ensures.rest ∙ rest_whole c.args.text.now c.args.at)) (λ x b q k. search (rules, tests))
+    position_from_yields_List (λ x. eqb x c.args.separator) _ _ _ c.position.ensures.ran
+    (YieldsList-from_slice (drop c.args.at c.args.text.now) (c.iter.ensures.rest ∙ rest_whole c.args.text.now c.args.at)) (λ x b q k. search (rules, tests))
 
 pub returns-in-Some : goal.returns-in-Some
 returns-in-Some c = ends_found _ _ _ c.requires (sym (found (goal.at.returns-in-Some c).After-position) ∙ c.in-Some.is)
