@@ -28,7 +28,9 @@ pub use image::{
 };
 pub use listing::order;
 pub use machine::{FaultKind, Run};
-pub use numbers::{CauseNumbers, CountNumbers, StepNumbers, of_count, of_gathered, of_settled, of_why};
+pub use numbers::{
+    CauseNumbers, CountNumbers, StepNumbers, of_count, of_gathered, of_settled, of_why,
+};
 pub use sheet::Unwritten;
 pub use steps::{Reason, Settled, gather, open, settle};
 
