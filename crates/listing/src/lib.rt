@@ -209,6 +209,7 @@ fn pick_all<'a>(
 }
 
 // Copies the order to the front of the list.
+#[tactic(auto, using(crate::proofs::Turns::copy_more))]
 fn copy_order(order: &[u8], list: &mut [u32])
     requires { length order.now ≤ length list.old }
     ensures { list.new ≡ overwritten order.now list.old }
@@ -256,7 +257,7 @@ pub fn order_checked(
 }
 
 // Checks 1 to 10.
-#[tactic(auto, using(image::proofs::Refusing::checking), unfolding(crate::specs::Listing::list_refusal))]
+#[tactic(auto, unfolding(crate::specs::Listing::list_refusal, image::specs::Refusals::after, image::specs::Refusals::check))]
 fn list_refusal(
     image: &[u8],
     table: &[u32],

@@ -14,8 +14,9 @@ use Rattle.slot.specs.States as state
 use Rattle.machine.specs.declared.Store.{Store}
 use Rattle.machine.specs.Runs as run
 use Rattle.machine.specs.Runs.{store_at}
+use Rattle.area.specs.declared.Batch.{Batch}
 use Rattle.area.specs.Layout.{state_of, detail_of, in_group}
-use Rattle.area.specs.Checks.{Paired, Measured}
+use Rattle.area.specs.Checks.{Paired, Measured, HasSlot}
 use Rattle.steps.specs.Gathering.{run_at}
 use Rattle.causes.specs.declared.answers.Why.{Why}
 use Rattle.causes.specs.declared.answers.Why.TheVariants as why
@@ -112,3 +113,24 @@ pub record CanRerun (image opening g : List ℕ) (k : ℕ) : Type 0 where
   pub accepted : refusal_of image ≡ passed
   pub within : k < count_of image
   pub pairs : Paired opening g
+
+-- ---- the same of what is lent of a batch
+
+abbrev pub ended_of : Batch → (k : ℕ) → List ℕ
+ended_of b k = ended_text b.image.now b.table.now b.guards.now b.area.now k
+
+abbrev pub program_of : (opening : List ℕ) → Batch → (k : ℕ) → List ℕ
+program_of opening b k = program_text b.image.now opening b.table.now b.guards.now b.area.now k
+
+abbrev pub reasons_of : (opening : List ℕ) → Batch → List ℕ
+reasons_of opening b = reasons_text b.image.now opening b.table.now b.guards.now b.area.now
+
+abbrev pub CanTellOf : (opening : List ℕ) → Batch → Type 0
+CanTellOf opening b = CanTell b.image.now opening b.table.now b.guards.now b.area.now
+
+-- what is needed of program k's slot, and for its run again
+abbrev pub CanEnd : Batch → (k : ℕ) → Type 0
+CanEnd b k = HasSlot (length b.table.now) k b.area.now × (0 < length b.table.now)
+
+abbrev pub CanStop : (opening : List ℕ) → Batch → (k : ℕ) → Type 0
+CanStop opening b k = CanRerun b.image.now opening b.guards.now k

@@ -2,14 +2,14 @@
 // is then said in `sentences`.
 #![tactic(auto)]
 
-ghost use Rattle.std.specs.Prelude.{◌≡◌, cond, ◌+◌, ◌≤◌, ◌<◌, length, get_or};
+ghost use Rattle.std.specs.Prelude.{◌≡◌, cond, ◌+◌, ◌≤◌, ◌<◌, get_or};
 ghost use Rattle.text.specs.Paper.{Put, Fits};
 ghost use Rattle.image.specs.Limits.{max_programs, max_cells};
 ghost use Rattle.slot.specs.declared.Group.TheVariants.{Carried};
 ghost use Rattle.slot.specs.States.{is_in};
 ghost use Rattle.area.specs.Checks.{HasSlot};
-ghost use Rattle.reasons.specs.Reasons.{committed_text, why_text, carried_text, faulted_text, place_of, ended_text, program_text, reasons_text};
-ghost use Rattle.reasons.specs.Reasons.{guard_faulted, last_store, guard_text, CanTell, CanRerun};
+ghost use Rattle.reasons.specs.Reasons.{committed_text, why_text, carried_text, faulted_text, place_of, ended_of, program_of, reasons_of};
+ghost use Rattle.reasons.specs.Reasons.{guard_faulted, last_store, guard_text, CanTellOf, CanRerun, CanEnd, CanStop};
 
 use area::Batch;
 use causes::{Cause, Why};
@@ -105,8 +105,8 @@ fn place_of(area: &[u32], cells: usize, number: usize) -> u32
 // One program, by the state that it ended in; one that has not ended is refused.
 #[tactic(auto, using(crate::proofs::Pages::places), unfolding(crate::specs::Reasons::ended_text, area::specs::Layout::in_group))]
 fn put_program(page: &mut Page, batch: Batch, number: usize)
-    requires { HasSlot (length batch.table.now) number batch.area.now × (0 < length batch.table.now) × Fits page.old (ended_text batch.image.now batch.table.now batch.guards.now batch.area.now number) }
-    ensures { Put page.old (ended_text batch.entry.image.now batch.entry.table.now batch.entry.guards.now batch.entry.area.now number) page.new }
+    requires { CanEnd batch number × Fits page.old (ended_of batch number) }
+    ensures { Put page.old (ended_of batch.entry number) page.new }
 {
     let cells = batch.table.len();
     let state = area::state(batch.area, cells, number);
@@ -187,8 +187,8 @@ fn put_guard_fault(
 // One program: one that a guard stopped, or any other. `opening` is the table as it was when the batch was opened.
 #[tactic(auto, unfolding(crate::specs::Reasons::program_text))]
 fn put_one(page: &mut Page, opening: &[u32], batch: Batch, number: usize)
-    requires { CanRerun batch.image.now opening.now batch.guards.now number × HasSlot (length batch.table.now) number batch.area.now × (0 < length batch.table.now) × Fits page.old (program_text batch.image.now opening.now batch.table.now batch.guards.now batch.area.now number) }
-    ensures { Put page.old (program_text batch.entry.image.now opening.now batch.entry.table.now batch.entry.guards.now batch.entry.area.now number) page.new }
+    requires { CanStop opening.now batch number × CanEnd batch number × Fits page.old (program_of opening.now batch number) }
+    ensures { Put page.old (program_of opening.now batch.entry number) page.new }
 {
     let cells = batch.table.len();
     if !guard_faulted(batch.area, cells, number) {
@@ -201,8 +201,8 @@ fn put_one(page: &mut Page, opening: &[u32], batch: Batch, number: usize)
 // Every program of a settled batch, in number order; `opening` is the table as it was when the batch was opened.
 #[tactic(auto, using(text::proofs::Fillings::turns), unfolding(crate::specs::Reasons::reasons_text))]
 pub fn put_reasons(page: &mut Page, opening: &[u32], batch: Batch)
-    requires { CanTell batch.image.now opening.now batch.table.now batch.guards.now batch.area.now × Fits page.old (reasons_text batch.image.now opening.now batch.table.now batch.guards.now batch.area.now) }
-    ensures { Put page.old (reasons_text batch.entry.image.now opening.now batch.entry.table.now batch.entry.guards.now batch.entry.area.now) page.new }
+    requires { CanTellOf opening.now batch × Fits page.old (reasons_of opening.now batch) }
+    ensures { Put page.old (reasons_of opening.now batch.entry) page.new }
 {
     for k in 0..image::count(batch.image) {
         put_one(page, opening, batch, k);

@@ -6,6 +6,7 @@ use Rattle.image.specs.declared.refusals.Refusal.TheVariants as refusal
 use Rattle.image.specs.Refusals.{check, unless}
 use Rattle.image.specs.Image.{count_of}
 use Rattle.guard.specs.Guards.{full_for}
+use Rattle.area.specs.declared.Batch.{Batch}
 use Rattle.area.specs.Layout.{area_words}
 use Rattle.area.specs.Checks.{open_refusal}
 use Rattle.steps.specs.Opening.{open_area}
@@ -110,6 +111,10 @@ unfoldable pub page_of : Told → Guards → (input : List ℕ) → List ℕ
 page_of page from input =
     unless (input_refusal from input) refused_line
     (page (image_of from input) (table_of input) (batch_of from input).table (guards_of from input) (batch_of from input).area)
+
+-- the same of what is lent of a batch
+abbrev pub told_of : Told → (opening : List ℕ) → Batch → List ℕ
+told_of page opening b = page b.image.now opening b.table.now b.guards.now b.area.now
 
 -- what is wanted of a batch: what came of it, or why; and how long such a page is at most
 abbrev pub page_text : Wanted → Told

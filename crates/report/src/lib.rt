@@ -13,10 +13,11 @@ ghost use Rattle.area.specs.Checks.{Paired};
 ghost use Rattle.prefix.specs.Prefix.{prefix_bytes};
 ghost use Rattle.input.specs.Prefix.{table_in};
 ghost use Rattle.results.specs.Listing.{most_listing};
-ghost use Rattle.reasons.specs.Reasons.{longest_page, CanTell};
+ghost use Rattle.reasons.specs.Reasons.{longest_page, CanTell, CanTellOf};
 ghost use Rattle.refused.specs.Refused.{refused_line, most_refused};
 ghost use Rattle.refused.specs.Where.{most_where};
-ghost use Rattle.report.specs.Batch.{lent, gather_first, settle_first, image_start, guards_for, page_of, page_text, page_most, batch_page, reasons_page, said};
+ghost use Rattle.report.specs.Batch.{lent, gather_first, settle_first, image_start, guards_for};
+ghost use Rattle.report.specs.Batch.{page_of, page_text, told_of, page_most, batch_page, reasons_page, said};
 ghost use Rattle.report.specs.Runs.{Leaves, RunsIn, programs_in, Room, Runs, RunsTable, RanSays};
 
 use area::Batch;
@@ -188,8 +189,8 @@ enum Wanted {
 
 // The page that is wanted; `opening` is the table as it was when the batch was opened.
 fn put_page(wanted: Wanted, page: &mut Page, opening: &[u32], batch: Batch)
-    requires { CanTell batch.image.now opening.now batch.table.now batch.guards.now batch.area.now × Fits page.old (page_text wanted batch.image.now opening.now batch.table.now batch.guards.now batch.area.now) }
-    ensures { Put page.old (page_text wanted batch.entry.image.now opening.now batch.entry.table.now batch.entry.guards.now batch.entry.area.now) page.new }
+    requires { CanTellOf opening.now batch × Fits page.old (told_of (page_text wanted) opening.now batch) }
+    ensures { Put page.old (told_of (page_text wanted) opening.now batch.entry) page.new }
 {
     match wanted {
         Wanted::Results => results::put_listing(page, batch),

@@ -7,7 +7,9 @@ use Rattle.image.specs.Limits.{max_programs, max_cells}
 use Rattle.image.specs.Refusals.{unless}
 use Rattle.image.specs.Image.{count_of, second_rule}
 use Rattle.slot.specs.States.{waiting, gathered, rejected, faulted, committed}
+use Rattle.area.specs.declared.Batch.{Batch}
 use Rattle.area.specs.Layout.{state_of, detail_of}
+use Rattle.area.specs.Checks.{Measured}
 use Rattle.listing.specs.Listing.{order_of, order_refusal}
 use Rattle.refused.specs.Refused.{refused_line}
 
@@ -59,6 +61,17 @@ order_room = replicate max_programs 0
 unfoldable pub listing : (image table guards area : List ℕ) → List ℕ
 listing image t g a =
     unless (order_refusal image t g a order_room) refused_line (listing_with (order_of (length t) (count_of image) a) image t a)
+
+-- ---- the same of what is lent of a batch, whose area has the words for it
+
+abbrev pub IsMeasured : Batch → Type 0
+IsMeasured b = Measured (length b.table.now) (count_of b.image.now) b.area.now
+
+abbrev pub listed_by : (order : List ℕ) → Batch → List ℕ
+listed_by order b = listing_with order b.image.now b.table.now b.area.now
+
+abbrev pub listing_of : Batch → List ℕ
+listing_of b = listing b.image.now b.table.now b.guards.now b.area.now
 
 -- ---- how long a listing is at most, where its numbers have 32 bits, which are ten digits: a text, and ten more for each number in it
 

@@ -6,10 +6,9 @@ ghost use Rattle.std.specs.Prelude.{◌≡◌, ◌≤◌, length};
 ghost use Rattle.text.specs.Paper.{Put, Fits};
 ghost use Rattle.text.specs.Filled.{texts};
 ghost use Rattle.image.specs.Limits.{max_cells};
-ghost use Rattle.image.specs.Image.{count_of};
 ghost use Rattle.area.specs.Checks.{Measured, HasSlot};
 ghost use Rattle.results.specs.Listing.{rule_in_force, first_line, word_of, program_line, program_lines};
-ghost use Rattle.results.specs.Listing.{order_entry, order_line, cell_lines, listing_with, listing};
+ghost use Rattle.results.specs.Listing.{order_entry, order_line, cell_lines, IsMeasured, listed_by, listing_of};
 
 use area::Batch;
 use text::Page;
@@ -122,8 +121,8 @@ fn put_cells(page: &mut Page, table: &[u32])
 // The listing with this order.
 #[tactic(auto, unfolding(crate::specs::Listing::listing_with))]
 fn put_with(page: &mut Page, order: &[u32], batch: Batch)
-    requires { Measured (length batch.table.now) (count_of batch.image.now) batch.area.now × Fits page.old (listing_with order.now batch.image.now batch.table.now batch.area.now) }
-    ensures { Put page.old (listing_with order.now batch.entry.image.now batch.entry.table.now batch.entry.area.now) page.new }
+    requires { IsMeasured batch × Fits page.old (listed_by order.now batch) }
+    ensures { Put page.old (listed_by order.now batch.entry) page.new }
 {
     put_first(page, batch.image, batch.table);
     put_programs(
@@ -139,8 +138,8 @@ fn put_with(page: &mut Page, order: &[u32], batch: Batch)
 // All that came of a settled batch; where it has no listed order, the refusal.
 #[tactic(auto, unfolding(crate::specs::Listing::listing, listing::specs::Listing::order_answer, listing::specs::Listing::order_list, image::specs::Refusals::unless))]
 pub fn put_listing(page: &mut Page, batch: Batch)
-    requires { Measured (length batch.table.now) (count_of batch.image.now) batch.area.now × Fits page.old (listing batch.image.now batch.table.now batch.guards.now batch.area.now) }
-    ensures { Put page.old (listing batch.entry.image.now batch.entry.table.now batch.entry.guards.now batch.entry.area.now) page.new }
+    requires { IsMeasured batch × Fits page.old (listing_of batch) }
+    ensures { Put page.old (listing_of batch.entry) page.new }
 {
     let mut order = [0u32; image::Image::PROGRAMS];
     match listing::order(

@@ -10,7 +10,6 @@ unfolding reasons_text
 put_one-requires c =
     let p = c.requires.0 in (
       record { accepted = p.accepted; within = omega arith; pairs = p.pairs },
-      measured_lies _ _ _ p.measured _ (omega arith),
-      p.cells_some,
+      (measured_lies _ _ _ p.measured _ (omega arith), p.cells_some),
       text_room (program_text _ _ _ _ _) (omega arith) c.loop-k.invariant c.requires.1,
     )
