@@ -84,7 +84,8 @@ fn lowered(m: u32, k: u32) -> u32
     if m == 0 || k < m { k } else { m }
 }
 
-// The program reserves each cell of the list of count words at a place, in the marks that begin at `marks`.
+// The program reserves each cell of the list of count words at a place, in the marks that begin at `marks`. By index, since the list is read from the
+// very area that is written.
 #[tactic(auto, using(crate::proofs::Loops::reserve_none))]
 fn reserve_cells(area: &mut [u32], marks: usize, at: usize, count: usize, number: usize)
     requires { Names marks at count area.old × (number < max_programs) }
@@ -125,7 +126,8 @@ fn lower_cell(area: &[u32], marks: usize, number: usize, found: usize, cell: usi
     }
 }
 
-// The lowest cell of the list whose mark names an earlier program; `cells` where there is none.
+// The lowest cell of the list whose mark names an earlier program; `cells`, which is above all of them, where there is none: so one comparison tells
+// which of two is lower.
 #[tactic(auto, using(crate::proofs::LowestCells::lowest_none))]
 fn lowest_of(
     area: &[u32],

@@ -6,7 +6,10 @@ use arguments::Kind;
 use image::Image;
 
 fn main(rt: HostRuntime) {
-    from_arguments::run::<{ Image::CELLS }, { prefix::MOST }, _>(&rt, b"cells", Kind::Cells, |cells, page| {
-        prefix::put_prefix(page, cells)
-    });
+    from_arguments::run::<{ Image::CELLS }, { prefix::MOST }, _>(
+        &rt,
+        b"cells",
+        Kind::Cells,
+        |cells, page| { prefix::put_prefix(page, cells) },
+    );
 }

@@ -7,7 +7,10 @@ use arguments::Kind;
 const ENDS: usize = guard::ENDS * image::Image::CELLS;
 
 fn main(rt: HostRuntime) {
-    from_arguments::run::<ENDS, { prefix::MOST_GUARDS }, _>(&rt, b"guards", Kind::Ends, |ends, page| {
-        prefix::put_guards(page, ends)
-    });
+    from_arguments::run::<ENDS, { prefix::MOST_GUARDS }, _>(
+        &rt,
+        b"guards",
+        Kind::Ends,
+        |ends, page| { prefix::put_guards(page, ends) },
+    );
 }

@@ -8,8 +8,8 @@ ghost use Rattle.image.specs.Bits.{packed, bits_of, row_of, ByKind};
 use crate::Image;
 use crate::refusals::{BadInstruction, Fault};
 
-// The kinds of a byte, as numbers and not as an enum, which was tried and makes the check of an image slower: each by the bits that are 0 in a good one: a register is below 8, an unused byte is 0, a skip's length is below 32, since no
-// program is longer, and the last kind may be any byte.
+// The kinds of a byte, each by the bits that are 0 in a good one: a register is below 8, an unused byte is 0, a skip's length is below 32, since no
+// program is longer, and the last kind may be any byte. They stay numbers: as an enum, which was tried, they make the check of an image slower.
 const REGISTER: u8 = 248;
 
 const UNUSED: u8 = 255;

@@ -21,7 +21,8 @@ pub const LONGEST: usize = COUNT_BYTES + CELL_BYTES * image::Image::CELLS + imag
 // The same where there are guards before the image.
 pub const LONGEST_GUARDED: usize = LONGEST + CELL_BYTES * guard::ENDS * image::Image::CELLS;
 
-// Reads until what is lent is full or nothing more comes, and answers how many bytes came. A read that fails is told, and ends it.
+// Reads until what is lent is full or nothing more comes, and answers how many bytes came. A read that fails is told, and ends it. A `while`,
+// since each read says how far it came.
 pub fn read_full<F: FnOnce()>(reader: &mut impl Read, room: &mut [u8], failed: F) -> usize
     requires { F.IsAlwaysCallable failed }
     ensures { IsPrefixLen result room.new }

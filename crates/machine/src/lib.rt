@@ -288,7 +288,7 @@ struct Ended {
     machine: Machine,
 }
 
-// The turns of a run, from an empty log. Every turn goes forward; arriving at m is an end.
+// The turns of a run, from an empty log. Every turn goes forward; arriving at m is an end. A `while`, since a skip moves the place.
 fn take_turns(program: &[u8], table: &[u32], guards: &[u32], slot: &mut [u32]) -> Ended
     requires { Begins program.now table.now guards.now slot.old }
     ensures { Ends (run_of program.now table.now guards.now) result slot.new }

@@ -27,12 +27,7 @@ pub fn run<
     const WORDS: usize,
     P: FnOnce(&[u8], &mut [u8]) -> Result<usize, NoPage>,
     S: FnOnce(&[u8], &mut [u8]) -> usize,
->(
-    rt: &impl Input,
-    name: &[u8],
-    page: P,
-    said: S,
-)
+>(rt: &impl Input, name: &[u8], page: P, said: S)
     requires rooms { (INPUT < 2 ^ 63) × (PAGE < 2 ^ 63) × (WORDS < 2 ^ 63) }
     requires page_may { (i : _) (o : _) → length o.now ≡ PAGE → P.pre page i o }
     requires page_fits { (i : _) (o : _) (r : _) (u : _) → length o.now ≡ PAGE → P.post page i o r u → IfOk r (λ end. end ≤ PAGE) }

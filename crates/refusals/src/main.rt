@@ -115,7 +115,10 @@ fn show(what: &[u8], number: u32) {
 // Shows what opening says with case 2's image.
 fn show_open(what: &[u8], table: &[u32], guards: &[u32], area: &mut [u32]) {
     let image = example();
-    show(what, number_of(sheetbendle::open(&image, table, guards, area)));
+    show(
+        what,
+        number_of(sheetbendle::open(&image, table, guards, area)),
+    );
 }
 
 // Shows what gathering says with case 2's image.

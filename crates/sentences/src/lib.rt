@@ -169,7 +169,7 @@ pub fn put_load_fault(page: &mut text::Page, number: u32, place: u32, last: u32)
     )
 }
 
-// A program that faulted at a store.
+// A program that faulted at a store. Apart from that of a load: one function with both texts as its parameters would be no shorter.
 #[tactic(auto, unfolding(crate::specs::Sentences::store_fault_line, crate::specs::Sentences::store_fault))]
 pub fn put_store_fault(page: &mut text::Page, number: u32, place: u32, last: u32)
     requires { Fits page.old (store_fault number place last) }
