@@ -112,7 +112,8 @@ details = refl
 
 -- ---- "What each refusal says"
 
--- "the output beyond the image .. untouched", and 10, "output shorter than the next image": outputs of one more than the image's 28 bytes, as many, one fewer
+-- "the output beyond the image .. untouched", and 10, "output shorter than the next image": outputs of one more than the image's 28 bytes, as many,
+-- one fewer
 sizes_29_28_27 : map (λ k. called batch (5 ∷ []) (area (4 ∷ 5 ∷ 5 ∷ [])) (image 1 (four ∷ [])) (nines k)) (29 ∷ 28 ∷ 27 ∷ [])
     ≡ done 28 (image 1 (two ∷ three ∷ four ∷ []) ++ (9 ∷ []))
     ∷ done 28 (image 1 (two ∷ three ∷ four ∷ []))
@@ -122,7 +123,9 @@ unfolding opened
 sizes_29_28_27 = refl
 
 -- what the call's contract says of all this
-next_says : NextSays batch (5 ∷ []) (1 ∷ 0 ∷ []) (area (4 ∷ 5 ∷ 5 ∷ [])) (image 1 (four ∷ [])) (nines 29) (Ok 28) (image 1 (two ∷ three ∷ four ∷ []) ++ (9 ∷ []))
+next_says :
+    NextSays batch (5 ∷ []) (1 ∷ 0 ∷ []) (area (4 ∷ 5 ∷ 5 ∷ [])) (image 1 (four ∷ [])) (nines 29)
+    (Ok 28) (image 1 (two ∷ three ∷ four ∷ []) ++ (9 ∷ []))
     × NextSays batch (5 ∷ []) (1 ∷ 0 ∷ []) (area (4 ∷ 5 ∷ 5 ∷ [])) (image 1 (four ∷ [])) (nines 27) (Err refusal.TooShort) (nines 27)
 unfolding opened
 next_says = (record { answer = refl; bytes = refl }, record { answer = refl; bytes = refl })
@@ -161,8 +164,9 @@ states_0_1 : map (λ s. next (4 ∷ s ∷ 4 ∷ []) (image 0 [])) (0 ∷ 1 ∷ 2
 unfolding opened
 states_0_1 = refl
 
--- "Checks go .. for the next image: 1 to 7, 9, 21 to 24, 11, 10.", where 4 is 41 and 24 is 61, each with its place; each on a call that breaks all that come after it too, as far as they can be broken
--- together. "A refusal returns its number, 0 for every other result, and changes no lent memory."
+-- "Checks go .. for the next image: 1 to 7, 9, 21 to 24, 11, 10.", where 4 is 41 and 24 is 61, each with its place; each on a call that breaks all
+-- that come after it too, as far as they can be broken together. "A refusal returns its number, 0 for every other result, and changes no lent
+-- memory."
 abbrev spoilt : ℕ → ℕ → List ℕ
 spoilt rule k = image rule (programs k ++ (program (store 0 0 ∷ instruction 9 0 0 0 ∷ []) ∷ []))
 

@@ -4,6 +4,7 @@ use mathlib.Core.List.{List, [], ◌++◌, append-nil}
 use Prim.Native.Nat.{ℕ, ◌≤◌}
 use native.Mathlib.Omega.{arith}
 use lib.ListN.{length}
+use Rattle.std.proofs.lemmas.Grind.{common_steps}
 use Rattle.text.specs.Writing.{Wrote, PageSays}
 use Rattle.text.specs.declared.page.Page.{Page}
 use Rattle.text.specs.Paper.{Put, Fits}
@@ -62,3 +63,6 @@ module _ {c : Chosen} {s : Sources c} {p q : Page} (b : Begun c s p q) where
 
         pub all_put : {r : Page} → Put q4 (joined (new_programs c)) r → Put p (image_from c) r
         all_put y = partly_end (partly_more old_bytes _ [] (sym (append-nil _)) y) refl
+
+-- the header, and the ends that stand behind it
+pub ruleset first_pieces = (common_steps, from_length, from_small, from_pieces)

@@ -1,5 +1,5 @@
--- The image of two sources: how many programs it has, how long it is, of which pieces it is; and that of the carried programs and the fresh image's it
--- is the next image. Assumes nothing.
+-- The image of two sources: how many programs it has, how long it is, of which pieces it is; and of which programs it is where the one are the
+-- carried and the others all the fresh ones. Assumes nothing.
 use mathlib.Core.Path.{◌≡◌, ◌∙◌}
 use mathlib.Core.Bool.{true}
 use mathlib.Core.List.{List, ◌++◌, append_assoc}
@@ -26,12 +26,15 @@ use Rattle.carry.specs.Sources.{Sources, old_programs, new_programs, image_from}
 module _ {c : Chosen} (s : Sources c) where
   from_count : c.programs ≡ length (old_programs c ++ new_programs c)
   from_count =
-      omega (arith, s.counted, length-append (old_programs c) (new_programs c), picked_count (has_bit c.mask) c.image.now c.n, picked_count (has_bit c.all) c.fresh.now c.m)
+      let old_count = picked_count (has_bit c.mask) c.image.now c.n in
+      let new_count = picked_count (has_bit c.all) c.fresh.now c.m in
+      omega (arith, s.counted, length-append (old_programs c) (new_programs c), old_count, new_count)
 
   pub from_length : length (image_from c) ≡ head_bytes c.programs + length (joined (old_programs c)) + length (joined (new_programs c))
   unfolding image_from
   from_length =
-      omega (arith, from_count, length_image (rule_byte c.fresh.now) (old_programs c ++ new_programs c), length_joined (old_programs c) (new_programs c))
+      let l = length_image (rule_byte c.fresh.now) (old_programs c ++ new_programs c) in
+      omega (arith, from_count, l, length_joined (old_programs c) (new_programs c))
 
   pub from_small : length (image_from c) < 65536
   from_small = omega (arith, from_length, s.few, s.old.few, s.new.few, picked_short s.old c.n (omega arith), picked_short s.new c.m (omega arith))

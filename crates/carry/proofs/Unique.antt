@@ -12,7 +12,8 @@ use Rattle.carry.proofs.next_image.Kinds as next_image_kinds
 use Rattle.carry.proofs.next_image.Reads as next_image
 
 -- the answer, and what the output holds at the exit
-pub next_image_unique : Unique {A = Result ℕ Refusal × List ℕ} 6 next_image_kinds.ps next_image_kinds.r (λ κs x s. (x, s.1.1.1.1.1.0.now)) next_image.Post
+pub next_image_unique : Unique {A = Result ℕ Refusal × List ℕ} 6 next_image_kinds.ps next_image_kinds.r
+    (λ κs x s. (x, s.1.1.1.1.1.0.now)) next_image.Post
 next_image_unique κs a x y s t p q = cc
 
 -- the two images that are chosen from are compared by their bytes

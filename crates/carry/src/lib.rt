@@ -73,7 +73,7 @@ impl<'a> Chosen<'a> {
     }
 
     // The next image, where all checks have been made.
-    #[tactic(auto, using(crate::proofs::Sources::from_length, crate::proofs::Sources::from_small, crate::proofs::Sources::from_pieces, std::proofs::lemmas::Grind::common_steps, text::proofs::Pages::put_more))]
+    #[tactic(auto, using(crate::proofs::Pieces::first_pieces))]
     pub fn write(&self, out: &mut [u8]) -> usize
         requires { Sources self.now × (length (image_from self.now) ≤ length out.old) }
         ensures { Wrote out.old 0 (image_from self.now) out.new result }

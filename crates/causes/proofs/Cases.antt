@@ -80,7 +80,8 @@ unfolding opened
 that_cells_mark = refl
 
 -- "earlier" is a smaller number: neither the program's own mark nor mark 0 is a cause
-own_mark : why 1 1 (3 ∷ 0 ∷ 2 ∷ 0 ∷ 0 ∷ []) none ∷ why 1 1 (0 ∷ 0 ∷ 2 ∷ 0 ∷ 0 ∷ []) none ∷ why 2 3 (0 ∷ 3 ∷ 0 ∷ 0 ∷ 2 ∷ []) (3 ∷ 0 ∷ 1 ∷ 0 ∷ 0 ∷ []) ∷ []
+own_mark :
+    why 1 1 (3 ∷ 0 ∷ 2 ∷ 0 ∷ 0 ∷ []) none ∷ why 1 1 (0 ∷ 0 ∷ 2 ∷ 0 ∷ 0 ∷ []) none ∷ why 2 3 (0 ∷ 3 ∷ 0 ∷ 0 ∷ 2 ∷ []) (3 ∷ 0 ∷ 1 ∷ 0 ∷ 0 ∷ []) ∷ []
     ≡ Ok (Waw (at 2 1)) ∷ Ok (Waw (at 2 1)) ∷ Ok (RawWithWar (at 4 1) (at 2 0)) ∷ []
 unfolding opened
 own_mark = refl
@@ -100,7 +101,8 @@ numbers = refl
 abbrev before_whom : (state : ℕ) → (writes reads : List ℕ) → Result (Option Cause) Refusal
 before_whom state writes reads = before_answer (three 2) table (full_for table) (standing state 0 writes reads) 2
 
-raw_or_nobody : before_whom 4 (0 ∷ 2 ∷ 0 ∷ 0 ∷ 1 ∷ []) none ∷ before_whom 4 (0 ∷ 3 ∷ 0 ∷ 0 ∷ 0 ∷ []) none ∷ before_whom 5 (1 ∷ 0 ∷ 0 ∷ 0 ∷ 1 ∷ []) none ∷ []
+raw_or_nobody :
+    before_whom 4 (0 ∷ 2 ∷ 0 ∷ 0 ∷ 1 ∷ []) none ∷ before_whom 4 (0 ∷ 3 ∷ 0 ∷ 0 ∷ 0 ∷ []) none ∷ before_whom 5 (1 ∷ 0 ∷ 0 ∷ 0 ∷ 1 ∷ []) none ∷ []
     ≡ Ok (Some (at 1 1)) ∷ Ok None ∷ Ok (Some (at 4 0)) ∷ []
 unfolding opened
 raw_or_nobody = refl

@@ -69,7 +69,10 @@ unfolding opened
 by_the_rule = refl
 
 -- "also where they give none": program 0 has nobody before it, with any detail
-no_reason_lem : map (λ detail. (told (why_refusal (two 1) (8 ∷ []) guards (area (1 ∷ []) (2 ∷ []) (slot 5 detail [] (0 ∷ []) (60 ∷ []) ∷ slot 4 0 [] [] [] ∷ [])) 0)).number) (0 ∷ 1 ∷ 2 ∷ 3 ∷ [])
+abbrev first_carried : (detail : ℕ) → List ℕ
+first_carried detail = area (1 ∷ []) (2 ∷ []) (slot 5 detail [] (0 ∷ []) (60 ∷ []) ∷ slot 4 0 [] [] [] ∷ [])
+
+no_reason_lem : map (λ detail. (told (why_refusal (two 1) (8 ∷ []) guards (first_carried detail) 0)).number) (0 ∷ 1 ∷ 2 ∷ 3 ∷ [])
     ≡ 15 ∷ 15 ∷ 15 ∷ 15 ∷ []
 unfolding opened
 no_reason_lem = refl
@@ -79,7 +82,7 @@ unfolding opened
 thirteen_before_fifteen = refl
 
 -- "A refusal returns its number"
-refused : why_answer (two 1) (8 ∷ []) guards (standing 4 4 0) 1 ∷ why_answer (two 1) (8 ∷ []) guards (standing 4 5 1) 1 ∷ why_answer (two 1) (8 ∷ []) guards (standing 4 5 2) 1 ∷ []
+refused : map (λ a. why_answer (two 1) (8 ∷ []) guards a 1) (standing 4 4 0 ∷ standing 4 5 1 ∷ standing 4 5 2 ∷ [])
     ≡ Err refusal.NotCarried ∷ Err refusal.Reason ∷ Ok (Raw (record { cell = 0; program = 0 })) ∷ []
 unfolding opened
 refused = refl

@@ -24,7 +24,8 @@ module _ (image t g a : List ℕ) (k : ℕ) where
   carried_shows e = ask_shows (none_after (ask_refusal image t g a k) _ e).0
 
   -- where all of them pass
-  pub ask_passes : call_refusal image t g a ≡ passed → k < count_of image → all_ended (length t) (count_of image) a ≡ true → passed ≡ ask_refusal image t g a k
+  pub ask_passes : call_refusal image t g a ≡ passed → k < count_of image → all_ended (length t) (count_of image) a ≡ true
+      → passed ≡ ask_refusal image t g a k
   unfolding ask_refusal step_refusal
   ask_passes e l ended = first_passes (first_passes refl e (goes_on _ (lt-ltb _ _ l) refl)) refl (goes_on _ ended refl)
 

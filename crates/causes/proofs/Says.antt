@@ -20,7 +20,8 @@ use Rattle.steps.proofs.Says.{cells_dropped}
 use Rattle.causes.specs.Causes.{cause_of}
 use Rattle.causes.specs.declared.answers.Cause.{Cause}
 use Rattle.causes.specs.declared.answers.Why.{Why}
-use Rattle.causes.specs.Why.{explained, is_reason, explained_by, told_by, answer_for, ask_refusal, carried_refusal, holds_reason, why_refusal, why_answer, WhySays, Explains}
+use Rattle.causes.specs.Why.{explained, is_reason, explained_by, told_by, answer_for, ask_refusal}
+use Rattle.causes.specs.Why.{carried_refusal, holds_reason, why_refusal, why_answer, WhySays, Explains}
 use Rattle.causes.specs.Why.{before_of, before_answer, BeforeSays}
 
 -- ---- why

@@ -1,5 +1,5 @@
--- Document 02, ask 3, "Tell me why I was carried": the reason with its cause, and what the calls answer. All that they are lent they are lent to read.
--- Assumes nothing.
+-- Document 02, ask 3, "Tell me why I was carried": the reason with its cause, and what the calls answer. All that they are lent they are lent to
+-- read. Assumes nothing.
 use Rattle.std.specs.Prelude.{ℕ, ◌≡◌, Bool, false, cond, List, eqb, length, Option, Some, None, Result, Ok, Err}
 use Rattle.image.specs.declared.refusals.Refusal.{Refusal}
 use Rattle.image.specs.declared.refusals.Refusal.TheVariants as refusal
@@ -111,8 +111,8 @@ numbers_of_why (Ok (why.RawWithWar cause war)) = numbers_for reason.RawWithWar c
 
 -- ---- before whom a program comes
 
--- A program that read a cell as it was, while an earlier program stores it, comes before that program: RAW, with its cause. Rule 2 commits such a program
--- where it has neither WAW nor WAR.
+-- A program that read a cell as it was, while an earlier program stores it, comes before that program: RAW, with its cause. Rule 2 commits such a
+-- program where it has neither WAW nor WAR.
 unfoldable pub before_of : ℕ → ℕ → List ℕ → Option Cause
 before_of T k a = cond (raw T k a) (Some (raw_cause T k a)) None
 

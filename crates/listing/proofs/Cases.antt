@@ -89,7 +89,8 @@ case_5 : lists (committed (x ∷ []) (y ∷ []) ∷ committed (z ∷ []) (x ∷ 
 unfolding opened
 case_5 = refl
 
--- "the smallest", looked for anew each time: 2 frees 1 and 1 frees 0, and both come before 3, which was free from the start. By passes it would be 2, 3, 1, 0.
+-- "the smallest", looked for anew each time: 2 frees 1 and 1 frees 0, and both come before 3, which was free from the start. By passes it would be 2,
+-- 3, 1, 0.
 smaller_one_freed : lists (committed [] (x ∷ []) ∷ committed (x ∷ []) (y ∷ []) ∷ committed (y ∷ []) [] ∷ idle ∷ []) ≡ done 4 (2 ∷ 1 ∷ 0 ∷ 3 ∷ 9 ∷ [])
 unfolding opened
 smaller_one_freed = refl
@@ -144,8 +145,8 @@ counted_alone : lists (committed [] (x ∷ []) ∷ set (committed (x ∷ []) [])
 unfolding opened
 counted_alone = refl
 
--- "Under Rule 1, for an area that these calls made on this image, this is rising number order": y = x; z = y, carried for 2; x is set; nothing. Marks as
--- gathering leaves them. 0 reads the x that 2 stores, as an earlier one may.
+-- "Under Rule 1, for an area that these calls made on this image, this is rising number order": y = x; z = y, carried for 2; x is set; nothing. Marks
+-- as gathering leaves them. 0 reads the x that 2 stores, as an earlier one may.
 abbrev made : List ℕ
 made =
     marked (3 ∷ 1 ∷ 2 ∷ []) (1 ∷ 2 ∷ 0 ∷ [])

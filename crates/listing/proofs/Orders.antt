@@ -32,7 +32,8 @@ module _ (image t g a list : List ℕ) where
       let r = none_fails (leb (count_of image) (length list)) refusal.TooShort _ w.1 in
       (checked image t g a (none_after (call_refusal image t g a) _ w.0).0, leb-true _ _ r.0)
 
-  pub list_ready : list_refusal image t g a list ≡ passed → (n : ℕ) → n ≡ count_of image → Measured (length t) n a × Slots a (length t) n × (n ≤ length list)
+  pub list_ready : list_refusal image t g a list ≡ passed → (n : ℕ) → n ≡ count_of image
+      → Measured (length t) n a × Slots a (length t) n × (n ≤ length list)
   list_ready e n q =
       let s = list_shows e in (
         measured image t a s.0 n q,
@@ -54,7 +55,8 @@ module _ (image t g a list : List ℕ) where
   unfolding order_refusal
   twelve refused done e = last_decides (list_refusal image t g a list) refusal.NoOrder (order_exists (length t) (count_of image) a) refused done e
 
-  pub order_done : list_refusal image t g a list ≡ passed → (n : ℕ) → n ≡ count_of image → (r : Result ℕ Refusal) (list' : List ℕ) → Lists (length t) n a list r list'
+  pub order_done : list_refusal image t g a list ≡ passed → (n : ℕ) → n ≡ count_of image → (r : Result ℕ Refusal) (list' : List ℕ)
+      → Lists (length t) n a list r list'
       → OrderSays image t g a list r list'
   unfolding order_answer order_list listed_answer listed_list
   order_done e n f r list' s =

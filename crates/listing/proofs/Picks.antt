@@ -69,14 +69,16 @@ module _ (n : ℕ) (reads stores : ℕ → List ℕ) (d : ℕ → Bool) (blocker
       (λ i e. let t = first_is (free blockers (mask_of left n)) n i e in (omega (arith, t.0), t.1)))
       ∙ first_ext (free blockers (mask_of left n)) (ready n reads stores left) n (free_ready left sub)
 
-  picks_listed : n ≤ word_bits → (k : ℕ) (left : ℕ → Bool) → ((i : ℕ) → left i ≡ true → d i ≡ true) → picks k blockers (mask_of left n) ≡ listed k n reads stores left
+  picks_listed : n ≤ word_bits → (k : ℕ) (left : ℕ → Bool) → ((i : ℕ) → left i ≡ true → d i ≡ true)
+      → picks k blockers (mask_of left n) ≡ listed k n reads stores left
   unfolding picks listed grow ready without
   picks_listed few zero left sub = refl
   picks_listed few (suc k) left sub =
       rw (first_ready left sub few) (go (first (ready n reads stores left) n) refl (λ i. picks_listed few k (without i left)))
     where
       go : (v : ℕ) → first (ready n reads stores left) n ≡ v
-          → ((i : ℕ) → ((j : ℕ) → without i left j ≡ true → d j ≡ true) → picks k blockers (mask_of (without i left) n) ≡ listed k n reads stores (without i left))
+          → ((i : ℕ) → ((j : ℕ) → without i left j ≡ true → d j ≡ true)
+          → picks k blockers (mask_of (without i left) n) ≡ listed k n reads stores (without i left))
           → grow v (λ i. picks k blockers (bit_xor (mask_of left n) (2 ^ i))) ≡ grow v (λ i. listed k n reads stores (without i left))
       go zero e ih = refl
       go (suc i) e ih =

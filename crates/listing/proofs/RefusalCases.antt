@@ -53,8 +53,8 @@ entries_3_2 : map (called (batch one_of_three) table (area one_of_three)) ((9 �
 unfolding opened
 entries_3_2 = refl
 
--- 12, "no order exists": each of two reads what the other stores, and each of three what the one before it stores; a program that could be taken, before or
--- after them, does not help, and a circle that goes through a carried program is none
+-- 12, "no order exists": each of two reads what the other stores, and each of three what the one before it stores; a program that could be taken,
+-- before or after them, does not help, and a circle that goes through a carried program is none
 abbrev circle_of_two : List (List ℕ)
 circle_of_two = committed (x ∷ []) (y ∷ []) ∷ committed (y ∷ []) (x ∷ []) ∷ []
 
@@ -66,8 +66,8 @@ circles : map lists (circle_of_two ∷ circle_of_three 4 ∷ circle_of_three 5 �
 unfolding opened
 circles = refl
 
--- "Checks go in the row order": 1 to 7, 9, 10, 12, each on a call that breaks all rows after it too, as far as they can be broken together. "A refusal
--- returns its number, 0 for every other result, and changes no lent memory."
+-- "Checks go in the row order": 1 to 7, 9, 10, 12, each on a call that breaks all rows after it too, as far as they can be broken together. "A
+-- refusal returns its number, 0 for every other result, and changes no lent memory."
 abbrev bad : ℕ → List ℕ
 bad rule = image rule ([] ∷ program (end ∷ end ∷ instruction 9 0 0 0 ∷ []) ∷ [])
 
@@ -92,7 +92,8 @@ row_order : called (take 5 (bad 3)) [] overmarked (9 ∷ [])
     ∷ called (batch circle_of_two) table stuck (9 ∷ [])
     ∷ called (batch circle_of_two) table stuck (9 ∷ 9 ∷ [])
     ∷ []
-    ≡ map (λ r. refused r (9 ∷ [])) (1 ∷ 2 ∷ 3 ∷ []) ++ (refused_with (refusing_at 41 1 2) (9 ∷ []) ∷ map (λ r. refused r (9 ∷ [])) (5 ∷ 6 ∷ 7 ∷ 9 ∷ 10 ∷ []))
+    ≡ map (λ r. refused r (9 ∷ [])) (1 ∷ 2 ∷ 3 ∷ [])
+    ++ (refused_with (refusing_at 41 1 2) (9 ∷ []) ∷ map (λ r. refused r (9 ∷ [])) (5 ∷ 6 ∷ 7 ∷ 9 ∷ 10 ∷ []))
     ++ (refused 12 (9 ∷ 9 ∷ []) ∷ [])
 unfolding opened
 row_order = refl

@@ -20,7 +20,8 @@ Rising [] = Unit {0}
 Rising (i ∷ l) = ((j : ℕ) → has j l ≡ true → i < j) × Rising l
 
 -- rising lists with the same members are equal
-rising_unique : (l l' : List ℕ) → Rising l → Rising l' → ((j : ℕ) → has j l ≡ true → has j l' ≡ true) → ((j : ℕ) → has j l' ≡ true → has j l ≡ true) → l ≡ l'
+rising_unique : (l l' : List ℕ) → Rising l → Rising l' → ((j : ℕ) → has j l ≡ true → has j l' ≡ true) → ((j : ℕ) → has j l' ≡ true → has j l ≡ true)
+    → l ≡ l'
 rising_unique [] [] u v f g = refl
 rising_unique [] (y ∷ l') u v f g = absurd (has_none y (g y (has_head y l')))
 rising_unique (x ∷ l) [] u v f g = absurd (has_none x (f x (has_head x l)))
@@ -113,7 +114,8 @@ module _ {n : ℕ} {reads stores : ℕ → List ℕ} {all : ℕ → Bool} (upwar
   listed_rises : (k : ℕ) (left : ℕ → Bool) → ((i : ℕ) → left i ≡ true → all i ≡ true) → Rising (listed k n reads stores left)
   unfolding listed grow
   listed_rises zero left sub = tt
-  listed_rises (suc k) left sub = go (first (ready n reads stores left) n) refl (λ i. listed_rises k (without i left) (λ x h. sub x (without_is i left x h).0))
+  listed_rises (suc k) left sub =
+      go (first (ready n reads stores left) n) refl (λ i. listed_rises k (without i left) (λ x h. sub x (without_is i left x h).0))
     where
       go : (f : ℕ) → first (ready n reads stores left) n ≡ f → ((i : ℕ) → Rising (listed k n reads stores (without i left)))
           → Rising (grow f (λ i. listed k n reads stores (without i left)))

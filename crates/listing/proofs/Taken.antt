@@ -51,7 +51,8 @@ count_without left (suc k) i h e = go (below i k h) (count_without left k i)
     go (inl q) ih = let f = count_past left k i (omega arith) in rw (ap left (sym q) ∙ e, eq-eqb k i (sym q)) (omega arith)
     go (inr q) ih = let f = ih q e in rw (ne_eqb k i (λ z. omega arith)) (last (left k) f)
       where
-        last : (b : Bool) → count left k ≡ suc (count (without i left) k) → cond b 1 0 + count left k ≡ suc (cond (b && true) 1 0 + count (without i left) k)
+        last : (b : Bool) → count left k ≡ suc (count (without i left) k)
+            → cond b 1 0 + count left k ≡ suc (cond (b && true) 1 0 + count (without i left) k)
         last true f = omega arith
         last false f = omega arith
 

@@ -40,5 +40,6 @@ pub ruleset taking = (one_taken, none_taken, all_taken, first_le, shifted)
 pub copy_more : (from into : List ℕ) (k : ℕ) → k < length from → length from ≤ length into
     → set (take k from ++ drop k into) k (get_or from k 0) ≡ take (k + 1) from ++ drop (k + 1) into
 copy_more from into k l h =
-    rw (add-one, drop-cons into k 0 (omega arith), set_at (take k from) (get_or into k 0) (drop (suc k) into) (get_or from k 0) k (length-take-le k from (omega arith)), take-suc from k 0 l)
+    let at_k = set_at (take k from) (get_or into k 0) (drop (suc k) into) (get_or from k 0) k (length-take-le k from (omega arith)) in
+    rw (add-one, drop-cons into k 0 (omega arith), at_k, take-suc from k 0 l)
     (sym (append_snoc (take k from) (get_or from k 0) (drop (suc k) into)))

@@ -13,5 +13,6 @@ use Rattle.listing.proofs.order.Reads as order
 pub order_unique : Unique {A = Result ℕ Refusal × List ℕ} 5 order_kinds.ps order_kinds.r (λ κs x s. (x, s.1.1.1.1.0.now)) order.Post
 order_unique κs a x y s t p q = cc
 
-pub order_checked_unique : Unique {A = Result ℕ Refusal × List ℕ} 2 order_checked_kinds.ps order_checked_kinds.r (λ κs x s. (x, s.1.1.1.0.now)) order_checked.Post
+pub order_checked_unique : Unique {A = Result ℕ Refusal × List ℕ} 2 order_checked_kinds.ps order_checked_kinds.r
+    (λ κs x s. (x, s.1.1.1.0.now)) order_checked.Post
 order_checked_unique κs a x y s t p q = cc

@@ -19,7 +19,8 @@ use Rattle.listing.proofs.Taken.{without_is, is_without, count_without, blocks_i
 
 module _ (n : ℕ) (reads stores : ℕ → List ℕ) where
   -- who is taken was left
-  taken : (left : ℕ → Bool) (i : ℕ) → first (ready n reads stores left) n ≡ suc i → (i < n) × (left i ≡ true) × (first (blocks reads stores left i) n ≡ 0)
+  taken : (left : ℕ → Bool) (i : ℕ) → first (ready n reads stores left) n ≡ suc i
+      → (i < n) × (left i ≡ true) × (first (blocks reads stores left i) n ≡ 0)
   taken left i e = let t = first_is (ready n reads stores left) n i e in let u = ready_is reads stores left n i t.1 in (t.0, u.0, u.1)
 
   pub listed_members : (k : ℕ) (left : ℕ → Bool) (j : ℕ) → has j (listed k n reads stores left) ≡ true → (j < n) × (left j ≡ true)
@@ -66,7 +67,8 @@ module _ (n : ℕ) (reads stores : ℕ → List ℕ) where
 -- ---- the taking never gets stuck: where some of the programs are left, one of these is ready
 
 pub record NeverStuck (n : ℕ) (reads stores : ℕ → List ℕ) (all : ℕ → Bool) : Type 0 where
-  pub goes_on : (left : ℕ → Bool) → ((i : ℕ) → left i ≡ true → all i ≡ true) → (i : ℕ) → i < n → left i ≡ true → 0 < first (ready n reads stores left) n
+  pub goes_on : (left : ℕ → Bool) → ((i : ℕ) → left i ≡ true → all i ≡ true) → (i : ℕ) → i < n → left i ≡ true
+      → 0 < first (ready n reads stores left) n
 
 -- then each program is listed, and there are as many as are left
 module _ {n : ℕ} {reads stores : ℕ → List ℕ} {all : ℕ → Bool} (never : NeverStuck n reads stores all) where
@@ -74,10 +76,12 @@ module _ {n : ℕ} {reads stores : ℕ → List ℕ} {all : ℕ → Bool} (never
       → has j (listed k n reads stores left) ≡ true
   unfolding listed grow
   all_listed zero left sub c j l e = let t = count_some left n j l e in absurd (omega arith)
-  all_listed (suc k) left sub c j l e = go (first (ready n reads stores left) n) refl (λ i. all_listed k (without i left) (λ x h. sub x (without_is i left x h).0))
+  all_listed (suc k) left sub c j l e =
+      go (first (ready n reads stores left) n) refl (λ i. all_listed k (without i left) (λ x h. sub x (without_is i left x h).0))
     where
       go : (f : ℕ) → first (ready n reads stores left) n ≡ f
-          → ((i : ℕ) → count (without i left) n ≤ k → (j : ℕ) → j < n → without i left j ≡ true → has j (listed k n reads stores (without i left)) ≡ true)
+          → ((i : ℕ) → count (without i left) n ≤ k → (j : ℕ) → j < n → without i left j ≡ true
+          → has j (listed k n reads stores (without i left)) ≡ true)
           → has j (grow f (λ i. listed k n reads stores (without i left))) ≡ true
       go zero f ih = let t = never.goes_on left sub j l e in absurd (omega arith)
       go (suc i) f ih = last (known (eqb j i))
@@ -93,7 +97,8 @@ module _ {n : ℕ} {reads stores : ℕ → List ℕ} {all : ℕ → Bool} (never
       → length (listed k n reads stores left) ≡ count left n
   unfolding listed grow
   listed_many zero left sub c = omega arith
-  listed_many (suc k) left sub c = go (first (ready n reads stores left) n) refl (λ i. listed_many k (without i left) (λ x h. sub x (without_is i left x h).0))
+  listed_many (suc k) left sub c =
+      go (first (ready n reads stores left) n) refl (λ i. listed_many k (without i left) (λ x h. sub x (without_is i left x h).0))
     where
       go : (f : ℕ) → first (ready n reads stores left) n ≡ f
           → ((i : ℕ) → count (without i left) n ≤ k → length (listed k n reads stores (without i left)) ≡ count (without i left) n)

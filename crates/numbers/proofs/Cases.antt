@@ -1,6 +1,5 @@
--- Document 01, "What each refusal says", and document 02, ask 3, tried by computation on the structs that carry an answer's numbers: each stands under
--- its own name.
--- Assumes nothing.
+-- Document 01, "What each refusal says", and document 02, ask 3, tried by computation on the structs that carry an answer's numbers: each stands
+-- under its own name. Assumes nothing.
 use mathlib.Core.Path.{refl}
 use Rattle.std.specs.Prelude.{Ok, Err}
 use Rattle.image.specs.declared.refusals.Refusal.TheVariants.{State, NoOrder, Reason}
