@@ -83,6 +83,7 @@ fn read_words(rt: &impl Env, program: &[u8], kind: Kind, list: &mut [u32]) -> bo
     ensures { length list.new ≡ length list.old }
 {
     let mut room = [0u8; ARGUMENT];
+    // an index, since it is the argument's number as well
     for k in 0..list.len() {
         if !read_word(rt, program, kind, list, k, &mut room) {
             return false;

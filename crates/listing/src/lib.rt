@@ -198,6 +198,7 @@ fn pick_all<'a>(
     ensures { result.now ≡ picks n blockers.now all }
 {
     let mut left = all;
+    // counted, since the programs taken so far are lent out where no other is free
     for taken in 0..n {
         let Some(i) = next_free(blockers, left) else {
             return &order[..taken];

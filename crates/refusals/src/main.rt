@@ -69,13 +69,6 @@ fn long_table() -> [u32; sheetbendle::Image::CELLS + 1]
     [0; sheetbendle::Image::CELLS + 1]
 }
 
-// Room for every work area; every word is 0, as opening leaves it.
-fn area_room() -> [u32; sheetbendle::AREA_WORDS]
-    ensures { area_words 256 64 ≡ length result }
-{
-    [0; sheetbendle::AREA_WORDS]
-}
-
 // How many words the work area has.
 fn words() -> usize
     ensures { result ≡ area_words 3 3 }
@@ -198,7 +191,7 @@ fn of_area_size(table: &[u32], area: &mut [u32])
 fn show_spoilt(what: &[u8], table: &[u32], at: usize, value: u32)
     requires { at < area_words 3 3 }
 {
-    let mut room = area_room();
+    let mut room = [0u32; sheetbendle::AREA_WORDS];
     let end = words();
     let area = &mut room[0..end];
     put(area, slot_of(1) + slot::READ_COUNT, 1);
@@ -338,7 +331,7 @@ fn run_batch(table: &mut [u32], area: &mut [u32])
 fn main() {
     of_table_size();
     let mut table = [9u32, 4, 0];
-    let mut room = area_room();
+    let mut room = [0u32; sheetbendle::AREA_WORDS];
     let end = words();
     run_batch(&mut table, &mut room[0..end]);
 }

@@ -58,7 +58,7 @@ pub fn put_turned(page: &mut text::Page, number: u32, cause: causes::Cause)
     )
 }
 
-// A program that was carried for reason 1.
+// A program that was carried for reason 1. It and the next differ in their two texts alone, and `put_both` is what they have in common.
 #[tactic(auto, unfolding(crate::specs::Sentences::waw_line, crate::specs::Sentences::waw))]
 pub fn put_waw(page: &mut text::Page, number: u32, cause: causes::Cause)
     requires { Fits page.old (waw number cause) }
