@@ -11,7 +11,6 @@ use Rattle.base.proofs.Counts.{count_none, count_le}
 use Rattle.slot.specs.declared.Group.TheVariants.{Carried}
 use Rattle.slot.specs.States.{is_in}
 use Rattle.area.specs.Layout.{state_of, in_group}
-use Rattle.machine.specs.declared.Store.{Store}
 use Rattle.machine.specs.declared.FaultKind.TheVariants as fault
 use Rattle.machine.specs.declared.Run.TheVariants.{Faulted}
 use Rattle.machine.specs.Runs.{load_fault, store_fault, detail_of_run}
