@@ -1,6 +1,6 @@
 -- What the programs `to_image` and `to_sheet` print, for every input: document 02, ask 1; and what they say on standard error: ask 2. Refusal 10 is none of
 -- theirs: their room is never too short. Assumes nothing.
-use Rattle.std.specs.Prelude.{ℕ, List, [], Result, Err}
+use Rattle.std.specs.Prelude.{ℕ, Bool, List, [], length, nat_lt, Result, Err}
 use Rattle.image.specs.declared.refusals.BadInstruction.{BadInstruction}
 use Rattle.image.specs.declared.refusals.ImageRefusal.TheVariants as refusal
 use Rattle.image.specs.declared.refusals.Refusal.TheVariants.{Image}
@@ -18,6 +18,9 @@ use Rattle.refused.specs.Where.{where_at_line}
 -- the longest input that the two programs take: 1 MiB
 abbrev pub longest_input : ℕ
 longest_input = 1048576
+
+abbrev pub too_long : (input : List ℕ) → Bool
+too_long input = nat_lt longest_input (length input)
 
 -- "from a sheet: 51 the first line that its place does not allow .. with its number from 1; 2 ..; 3 ..; 4", which is 41 to 44: the line of a sheet's refusal
 unfoldable pub unwritten_line : Unwritten → List ℕ

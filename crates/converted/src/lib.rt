@@ -2,20 +2,26 @@
 // `to_image` says beside it (ask 2): which line of the sheet is bad; of an image `refused` says it.
 #![tactic(auto)]
 
-ghost use Rattle.std.specs.Prelude.{◌≤◌, length};
+ghost use Rattle.std.specs.Prelude.{◌≡◌, ◌≤◌, length};
 ghost use Rattle.image.specs.Limits.{max_bytes};
 ghost use Rattle.from_image.specs.Longest.{longest_sheet};
 ghost use Rattle.refused.specs.Refused.{most_refused};
 ghost use Rattle.refused.specs.Where.{most_where_at_line};
-ghost use Rattle.converted.specs.Converted.{unwritten_line, image_page, sheet_said, sheet_page};
+ghost use Rattle.converted.specs.Converted.{too_long, unwritten_line, image_page, sheet_said, sheet_page};
 ghost use Rattle.text.specs.Writing.{PageSays};
 
 use image::{ImageRefusal, Refusal, RefusalNumbers};
 use sheet::Unwritten;
 use text::Page;
 
-// The longest input that the two programs take.
+// The longest input that the two programs take, and whether one is longer.
 pub const LONGEST_INPUT: usize = 1048576;
+
+pub fn too_long(input: &[u8]) -> bool
+    ensures { result ≡ too_long input.now }
+{
+    LONGEST_INPUT < input.len()
+}
 
 // What `to_image` prints of a sheet.
 #[tactic(auto, using(crate::proofs::Pages::images), unfolding(crate::specs::Converted::image_page, from_sheet::specs::FromSheet::image_of_answer, from_sheet::specs::FromSheet::image_of_output, image::specs::Refusals::unless))]

@@ -20,6 +20,8 @@ use Rattle.image.proofs.image_refusal.Kinds as image_refusal_kinds
 use Rattle.image.proofs.image_refusal.Reads as image_refusal
 use Rattle.image.proofs.program_fault.Kinds as program_fault_kinds
 use Rattle.image.proofs.program_fault.Reads as program_fault
+use Rattle.image.proofs.instruction.Instruction.at.Kinds as at_kinds
+use Rattle.image.proofs.instruction.Instruction.at.Reads as at
 use Rattle.image.proofs.instruction.wrong_byte.Kinds as wrong_byte_kinds
 use Rattle.image.proofs.instruction.wrong_byte.Reads as wrong_byte
 use Rattle.image.proofs.fresh_refusal.Kinds as fresh_refusal_kinds
@@ -64,6 +66,9 @@ image_refusal_unique κs a x y s t p q = p ∙ sym q
 
 pub program_fault_unique : Unique 1 program_fault_kinds.ps program_fault_kinds.r (λ κs x s. x) program_fault.Post
 program_fault_unique κs a x y s t p q = p ∙ sym q
+
+pub at_unique : Unique 1 at_kinds.ps at_kinds.r (λ κs x s. x) at.Post
+at_unique κs a x y s t p q = p ∙ sym q
 
 pub wrong_byte_unique : Unique 1 wrong_byte_kinds.ps wrong_byte_kinds.r (λ κs x s. x) wrong_byte.Post
 wrong_byte_unique κs a x y s t p q = p ∙ sym q

@@ -5,6 +5,7 @@ use Rattle.base.specs.Words.{every}
 use Rattle.image.specs.declared.refusals.Fault.{Fault}
 use Rattle.image.specs.declared.refusals.Fault.TheVariants as fault
 use Rattle.image.specs.declared.refusals.BadInstruction.{BadInstruction}
+use Rattle.image.specs.declared.instruction.Instruction.{Instruction}
 use Rattle.image.specs.Limits.{registers, instruction_bytes}
 use Rattle.image.specs.Refusals.{passed, check, passes, placed, first_of}
 
@@ -88,6 +89,10 @@ fault_of op a b c i m =
 -- "Four bytes: operation, a, b, c." Byte j of instruction i of a program, 0 past the end.
 abbrev pub byte_of : List ℕ → ℕ → ℕ → ℕ
 byte_of program i j = get_or program (instruction_bytes * i + j) 0
+
+abbrev pub instruction_of : List ℕ → ℕ → Instruction
+instruction_of program i =
+    record { op = byte_of program i 0; a = byte_of program i 1; b = byte_of program i 2; c = byte_of program i 3 }
 
 abbrev pub instructions_of : List ℕ → ℕ
 instructions_of program = length program / instruction_bytes

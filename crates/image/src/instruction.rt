@@ -2,7 +2,8 @@
 ghost use Rattle.std.specs.Prelude.{◌≡◌, cond, ◌&&◌, ◌≤◌, ◌<◌, length};
 ghost use Rattle.image.specs.Limits.{max_instructions, max_program_bytes};
 ghost use Rattle.image.specs.Refusals.{passes, placed};
-ghost use Rattle.image.specs.Instruction.{register_good, unused_good, skip_good, fault_of, wrong_of, instructions_of, fault_at, wrong_byte, place_good};
+ghost use Rattle.image.specs.Instruction.{register_good, unused_good, skip_good, fault_of, wrong_of, instructions_of, instruction_of};
+ghost use Rattle.image.specs.Instruction.{fault_at, wrong_byte, place_good};
 ghost use Rattle.image.specs.Bits.{packed, bits_of, row_of, ByKind};
 
 use crate::Image;
@@ -30,7 +31,7 @@ fn all(x: bool, y: bool, z: bool) -> bool
     x && y && z
 }
 
-// Four bytes as one number.
+// Four bytes as one number: those of an instruction, or the kinds of a row.
 fn packed(op: u8, a: u8, b: u8, c: u8) -> u32
     ensures { result ≡ packed op a b c }
 {
@@ -121,51 +122,110 @@ const NO_ROW: Row = Row {
     c: FREE,
 };
 
-// What is wrong with an instruction at place i of m: the first in the list of document 02, or nothing.
-fn fault(op: u8, a: u8, b: u8, c: u8, i: usize, m: usize) -> Result<(), Fault>
-    requires { i < m }
-    ensures { result ≡ fault_of op a b c i m }
+// The first of three bytes that does not pass.
+fn first_bad(x: bool, y: bool, a: u8, b: u8, c: u8) -> u8
+    ensures { result ≡ cond x (cond y c b) a }
 {
-    let row = row_of(op).ok_or(Fault::Operation)?;
-    if !all(
-        register_good(row.a, a),
-        register_good(row.b, b),
-        register_good(row.c, c),
-    ) {
-        return Err(Fault::Register);
-    }
-    if !all(
-        unused_good(row.a, a),
-        unused_good(row.b, b),
-        unused_good(row.c, c),
-    ) {
-        return Err(Fault::Unused);
-    }
-    if !all(
-        skip_good(i, m, row.a, a),
-        skip_good(i, m, row.b, b),
-        skip_good(i, m, row.c, c),
-    ) {
-        return Err(Fault::Skip);
-    }
-    Ok(())
+    if x { if y { c } else { b } } else { a }
 }
 
-// Whether an instruction is good: first all bits that have to be 0, at once, and of a skip then where it lands. A known operation is below 16, so that its
-// own byte can be one of the four.
-#[tactic(auto, using(crate::proofs::Bytes::by_bits))]
-fn instruction_good(op: u8, a: u8, b: u8, c: u8, i: usize, m: usize) -> bool
-    requires { (i < m) × (m ≤ max_instructions) }
-    ensures { result ≡ passes (fault_of op a b c i m) }
-{
-    let bits = bits_of(op);
-    if bits == UNKNOWN {
-        return false;
+// Four bytes: operation, a, b, c.
+#[derive(Clone, Copy)]
+pub struct Instruction {
+    pub op: u8,
+    pub a: u8,
+    pub b: u8,
+    pub c: u8,
+}
+
+impl Instruction {
+    // Instruction i of a program.
+    pub fn at(program: &[u8], i: usize) -> Instruction
+        requires { i < instructions_of program.now }
+        ensures { result ≡ instruction_of program.now i }
+    {
+        let at = Image::INSTRUCTION_BYTES * i;
+        Instruction {
+            op: program[at],
+            a: program[at + 1],
+            b: program[at + 2],
+            c: program[at + 3],
+        }
     }
-    if packed(op, a, b, c) & bits != 0 {
-        return false;
+
+    // What is wrong with it at place i of m: the first in the list of document 02, or nothing.
+    fn fault(self, i: usize, m: usize) -> Result<(), Fault>
+        requires { i < m }
+        ensures { result ≡ fault_of self.op self.a self.b self.c i m }
+    {
+        let row = row_of(self.op).ok_or(Fault::Operation)?;
+        if !all(
+            register_good(row.a, self.a),
+            register_good(row.b, self.b),
+            register_good(row.c, self.c),
+        ) {
+            return Err(Fault::Register);
+        }
+        if !all(
+            unused_good(row.a, self.a),
+            unused_good(row.b, self.b),
+            unused_good(row.c, self.c),
+        ) {
+            return Err(Fault::Unused);
+        }
+        if !all(
+            skip_good(i, m, row.a, self.a),
+            skip_good(i, m, row.b, self.b),
+            skip_good(i, m, row.c, self.c),
+        ) {
+            return Err(Fault::Skip);
+        }
+        Ok(())
     }
-    skip_good(i, m, (bits / 16777216 % 256) as u8, c)
+
+    // Whether it is good at place i of m: first all bits that have to be 0, at once, and of a skip then where it lands. A known operation is below 16, so
+    // that its own byte can be one of the four.
+    #[tactic(auto, using(crate::proofs::Bytes::by_bits))]
+    fn is_good(self, i: usize, m: usize) -> bool
+        requires { (i < m) × (m ≤ max_instructions) }
+        ensures { result ≡ passes (fault_of self.op self.a self.b self.c i m) }
+    {
+        let bits = bits_of(self.op);
+        if bits == UNKNOWN {
+            return false;
+        }
+        if packed(self.op, self.a, self.b, self.c) & bits != 0 {
+            return false;
+        }
+        skip_good(i, m, (bits / 16777216 % 256) as u8, self.c)
+    }
+
+    // The byte that is wrong with it at place i of m, by its fault.
+    #[tactic(auto, using(crate::proofs::Bytes::by_row), unfolding(crate::specs::Instruction::wrong_of, crate::specs::Bits::zeros))]
+    fn wrong(self, found: Result<(), Fault>, i: usize, m: usize) -> u8
+        requires { i < m }
+        ensures { result ≡ wrong_of found self.op self.a self.b self.c i m }
+    {
+        let Instruction { op, a, b, c } = self;
+        let row = row_of(op).unwrap_or(NO_ROW);
+        match found {
+            Err(Fault::Operation) => op,
+            Err(Fault::Register) => {
+                first_bad(register_good(row.a, a), register_good(row.b, b), a, b, c)
+            }
+            Err(Fault::Unused) => first_bad(unused_good(row.a, a), unused_good(row.b, b), a, b, c),
+            Err(Fault::Skip) => {
+                first_bad(
+                    skip_good(i, m, row.a, a),
+                    skip_good(i, m, row.b, b),
+                    a,
+                    b,
+                    c,
+                )
+            }
+            Ok(()) => c,
+        }
+    }
 }
 
 // Whether instruction i of a program is good.
@@ -174,15 +234,7 @@ pub fn place_good(program: &[u8], i: usize) -> bool
     requires { (i < instructions_of program.now) × (length program.now ≤ max_program_bytes) }
     ensures { result ≡ place_good program.now i }
 {
-    let at = Image::INSTRUCTION_BYTES * i;
-    instruction_good(
-        program[at],
-        program[at + 1],
-        program[at + 2],
-        program[at + 3],
-        i,
-        program.len() / Image::INSTRUCTION_BYTES,
-    )
+    Instruction::at(program, i).is_good(i, program.len() / Image::INSTRUCTION_BYTES)
 }
 
 // What is wrong with instruction i of a program.
@@ -191,15 +243,7 @@ fn fault_at(program: &[u8], i: usize) -> Result<(), Fault>
     requires { i < instructions_of program.now }
     ensures { result ≡ fault_at program.now i }
 {
-    let at = Image::INSTRUCTION_BYTES * i;
-    fault(
-        program[at],
-        program[at + 1],
-        program[at + 2],
-        program[at + 3],
-        i,
-        program.len() / Image::INSTRUCTION_BYTES,
-    )
+    Instruction::at(program, i).fault(i, program.len() / Image::INSTRUCTION_BYTES)
 }
 
 // What is wrong with instruction i of program p, with its place.
@@ -214,52 +258,14 @@ pub fn refused_at(program: &[u8], p: usize, i: usize) -> Result<(), BadInstructi
     })
 }
 
-// The first of three bytes that does not pass.
-fn first_bad(x: bool, y: bool, a: u8, b: u8, c: u8) -> u8
-    ensures { result ≡ cond x (cond y c b) a }
-{
-    if x { if y { c } else { b } } else { a }
-}
-
-// The byte that is wrong with an instruction at place i of m, by its fault.
-#[tactic(auto, using(crate::proofs::Bytes::by_row), unfolding(crate::specs::Instruction::wrong_of, crate::specs::Bits::zeros))]
-fn wrong_of(found: Result<(), Fault>, op: u8, a: u8, b: u8, c: u8, i: usize, m: usize) -> u8
-    requires { i < m }
-    ensures { result ≡ wrong_of found op a b c i m }
-{
-    let row = row_of(op).unwrap_or(NO_ROW);
-    match found {
-        Err(Fault::Operation) => op,
-        Err(Fault::Register) => {
-            first_bad(register_good(row.a, a), register_good(row.b, b), a, b, c)
-        }
-        Err(Fault::Unused) => first_bad(unused_good(row.a, a), unused_good(row.b, b), a, b, c),
-        Err(Fault::Skip) => {
-            first_bad(
-                skip_good(i, m, row.a, a),
-                skip_good(i, m, row.b, b),
-                a,
-                b,
-                c,
-            )
-        }
-        Ok(()) => c,
-    }
-}
-
 // The byte that is wrong with instruction i of a program.
 #[tactic(auto, unfolding(crate::specs::Instruction::wrong_byte))]
 pub fn wrong_byte(program: &[u8], i: usize) -> u8
     requires { i < instructions_of program.now }
     ensures { result ≡ wrong_byte program.now i }
 {
-    let at = Image::INSTRUCTION_BYTES * i;
-    wrong_of(
+    Instruction::at(program, i).wrong(
         fault_at(program, i),
-        program[at],
-        program[at + 1],
-        program[at + 2],
-        program[at + 3],
         i,
         program.len() / Image::INSTRUCTION_BYTES,
     )

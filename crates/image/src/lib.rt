@@ -11,7 +11,7 @@ ghost use Rattle.image.specs.Image.{ProgramSays, ProgramRefusalSays};
 mod instruction;
 mod refusals;
 
-pub use instruction::wrong_byte;
+pub use instruction::{Instruction, wrong_byte};
 pub use refusals::{BadInstruction, Fault, ImageRefusal, Refusal, RefusalNumbers};
 
 // An image's header: how many programs it has, its rule byte and the byte that is 0.
@@ -42,7 +42,7 @@ impl Image {
 
     pub const BYTES: usize = Image::LEAST_BYTES + Image::PROGRAMS * (2 + Image::PROGRAM_BYTES);
 
-    // The header of an image, 0 where bytes are missing.
+    // The header of an image, 0 where bytes are missing, as its definition has it: the check of the size comes first.
     #[tactic(auto, unfolding(crate::specs::Image::number_at))]
     pub fn header(bytes: &[u8]) -> Image
         ensures { result ≡ header_of bytes.now }
@@ -63,7 +63,7 @@ impl Image {
     }
 }
 
-// The byte at a place, 0 past the end.
+// The byte at a place, 0 past the end: a number, as in the definitions, so that a reader of four bytes needs no four answers.
 pub fn byte_at(bytes: &[u8], at: usize) -> u8
     ensures { result ≡ byte_at bytes.now at }
 {
@@ -267,7 +267,7 @@ pub fn program(image: &[u8], number: usize) -> &[u8]
     }
 }
 
-// Where that part begins in the image; 0 on a refusal.
+// Where that part begins in the image; 0 on a refusal, as the header for C says of it.
 #[tactic(auto, using(crate::proofs::Laws::handed_when, crate::proofs::Refusing::refused_is, crate::proofs::Laws::handed_nothing))]
 pub fn program_start(image: &[u8], number: usize) -> usize
     ensures { result ≡ start_of image.now number }

@@ -1,9 +1,9 @@
 -- A run on its way, the invariant of `take_turns`: what is left of the run, from this machine and this slot, ends as the whole run does.
 -- Assumes nothing.
-use Rattle.std.proofs.Common.{◌≡◌, ℕ, zero, suc, ◌+◌, ◌*◌, ◌<◌, ◌≤◌, Some, None, List, length, get_or, replicate, sym, refl, ap, ◌∙◌, arith, le-ltb}
+use Rattle.std.proofs.Common.{◌≡◌, ℕ, zero, suc, ◌+◌, ◌<◌, ◌≤◌, Some, None, List, length, replicate, sym, refl, ap, ◌∙◌, arith, le-ltb}
 use Rattle.std.proofs.Common.{lt-ltb}
-use Rattle.image.specs.Limits.{instruction_bytes}
-use Rattle.image.specs.Instruction.{byte_of, instructions_of}
+use Rattle.image.specs.declared.instruction.Instruction.{Instruction}
+use Rattle.image.specs.Instruction.{instructions_of, instruction_of}
 use Rattle.slot.specs.States.{waiting}
 use Rattle.slot.specs.Layout.{list_words, slot_words}
 use Rattle.slot.specs.Log.{Log, empty, layout, log_of, Fits, Holds}
@@ -14,10 +14,9 @@ use Rattle.machine.specs.declared.Machine.{Machine}
 use Rattle.machine.specs.declared.Turned.{Turned}
 use Rattle.machine.specs.declared.Run.{Run}
 use Rattle.machine.specs.declared.Run.TheVariants.{Finished}
-use Rattle.machine.specs.Asks.{Ask, move, start, ask_of, ask_at}
+use Rattle.machine.specs.Asks.{move, start, ask_of, ask_at}
 use Rattle.machine.specs.Runs.{Effect, stop, next, Judge, perform, ended, since, seen, follow, run_from, run_by, log_after, turned}
 use Rattle.machine.specs.Runs.{Runnable, Ready, Did, Ends}
-use Rattle.machine.proofs.Named.{first_byte}
 use Rattle.machine.proofs.Asked.{ask_forward}
 use Rattle.machine.proofs.Laws.{by_ask, turn_fits}
 
@@ -44,13 +43,10 @@ turn_forward may p t m l m' l' =
     onward : (rs : List ℕ) (l : Log) → next (record { registers = rs; place = m.place + 1 }) l ≡ next m' l' → m.place < m'.place
     onward rs l e = let r : record { registers = rs; place = m.place + 1 } ≡ m' = cc in rw (← r) (omega arith)
 
--- what the instruction asks, as the code reads its bytes
-abbrev pub ask_read : List ℕ → Machine → Ask
-ask_read p m = ask_of (get_or p (instruction_bytes * m.place) 0) (byte_of p m.place 1) (byte_of p m.place 2) (byte_of p m.place 3) m
-
-ask_read_lem : (p : List ℕ) (m : Machine) → ask_at p m ≡ ask_read p m
+-- what the instruction at the machine's place asks
+asked : (p : List ℕ) (m : Machine) (i : Instruction) → i ≡ instruction_of p m.place → ask_at p m ≡ ask_of i.op i.a i.b i.c m
 unfolding ask_at
-ask_read_lem p m = rw (first_byte p m.place)
+asked p m i e = rw e
 
 -- ---- the invariant
 
@@ -153,9 +149,10 @@ module _ {may : Judge} {p t : List ℕ} {m : Machine} {slot : List ℕ} (runs : 
             },
           )
 
-  module _ {r : Turned} {slot' : List ℕ} (u : m.place < instructions_of p) (d : Did m (perform may t m (log_of slot) (ask_read p m)) r slot') where
+  module _ {r : Turned} {slot' : List ℕ} (u : m.place < instructions_of p) {i : Instruction} (read : i ≡ instruction_of p m.place)
+      (d : Did m (perform may t m (log_of slot) (ask_of i.op i.a i.b i.c m)) r slot') where
     did_is : Did m (perform may t m g.log (ask_at p m)) r slot'
-    did_is = rw (log_is, ← ask_read_lem p m) at d
+    did_is = rw (log_is, ← asked p m i read) at d
 
     abbrev taken : Effect
     taken = perform may t m g.log (ask_at p m)

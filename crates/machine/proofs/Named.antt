@@ -1,8 +1,9 @@
 -- A good instruction names registers wherever its operation does. Assumes nothing.
-use Rattle.std.proofs.Common.{◌≡◌, ℕ, zero, suc, ◌*◌, ◌<◌, ◌≤◌, Bool, true, ◌&&◌, ltb, List, get_or, sym, refl, ap, ◌∙◌, add-zero, arith, ltb-true}
+use Rattle.std.proofs.Common.{◌≡◌, ℕ, zero, suc, ◌<◌, ◌≤◌, Bool, true, ◌&&◌, ltb, List, sym, refl, ◌∙◌, arith, ltb-true}
 use Rattle.base.proofs.Bools.{and_both}
-use Rattle.image.specs.Limits.{registers, instruction_bytes}
-use Rattle.image.specs.Instruction.{rows, kinds_of, register_good, each, byte_of, instructions_of, program_good}
+use Rattle.image.specs.declared.instruction.Instruction.{Instruction}
+use Rattle.image.specs.Limits.{registers}
+use Rattle.image.specs.Instruction.{rows, kinds_of, register_good, each, byte_of, instructions_of, instruction_of, program_good}
 use Rattle.image.proofs.Faults.{good_at}
 use Rattle.machine.specs.Runs.{Named}
 
@@ -37,11 +38,6 @@ module _ (a b c : ℕ) where
   good_named (suc (suc (suc (suc (suc (suc (suc zero))))))) e = named_by 7 a b c _ true (λ h k. refl) (λ h k. absurd (omega arith)) e
   good_named (suc (suc (suc (suc (suc (suc (suc (suc o)))))))) e = none_named _ a b c (λ h k. omega arith)
 
--- byte 0 of an instruction stands where the instruction begins
-pub first_byte : (p : List ℕ) (i : ℕ) → get_or p (instruction_bytes * i) 0 ≡ byte_of p i 0
-first_byte p i = ap (λ (at : ℕ). get_or p at 0) (sym (add-zero (instruction_bytes * i)))
-
-pub instruction_named : (p : List ℕ) → program_good p ≡ true → (i : ℕ) → i < instructions_of p
-    → Named (get_or p (instruction_bytes * i) 0) (byte_of p i 1) (byte_of p i 2) (byte_of p i 3)
-instruction_named p e i l =
-    rw (first_byte p i) (good_named (byte_of p i 1) (byte_of p i 2) (byte_of p i 3) (byte_of p i 0) (good_at p e i l).registers)
+pub instruction_named : (p : List ℕ) → program_good p ≡ true → (k : ℕ) → k < instructions_of p → (i : Instruction) → i ≡ instruction_of p k
+    → Named i.op i.a i.b i.c
+instruction_named p e k l i read = rw read (good_named (byte_of p k 1) (byte_of p k 2) (byte_of p k 3) (byte_of p k 0) (good_at p e k l).registers)

@@ -11,6 +11,8 @@ ghost use Rattle.machine.specs.Asks.{start, reg, written, passed, skipped, added
 ghost use Rattle.machine.specs.Runs.{kind_number, stop, next, loading, storing, perform, run_of, state_of_run, detail_of_run, keeps, kept, turned};
 ghost use Rattle.machine.specs.Runs.{store_at, Named, Ready, Did, Begins, Ends, CanRun, RunSays, LastStore};
 
+use image::Instruction;
+
 // The eight registers and the place: the number of the instruction that is next.
 #[derive(Clone, Copy)]
 pub struct Machine {
@@ -86,7 +88,7 @@ impl Machine {
         self.registers[a as usize]
     }
 
-    // The register that a byte names, 0 where it names none.
+    // The register that a byte names, 0 where it names none: as the definition reads a program that no image would hold.
     fn named(self, a: u8) -> u32
         requires { length self.registers ≡ registers }
         ensures { result ≡ reg self a }
@@ -94,7 +96,7 @@ impl Machine {
         self.registers.get(a as usize).copied().unwrap_or(0)
     }
 
-    // A byte of the instruction at this place, 0 past the end.
+    // A byte of the instruction at this place, 0 past the end, as the definition reads it.
     fn byte_here(self, program: &[u8], k: usize) -> u8
         requires { (length program.now ≤ max_program_bytes) × (k < instruction_bytes) }
         ensures { result ≡ byte_here program.now self k }
@@ -251,21 +253,13 @@ impl Machine {
         self.passed().goes()
     }
 
-    // One turn: the instruction op, a, b, c.
+    // One turn.
     #[tactic(auto, unfolding(crate::specs::Asks::ask_of, crate::specs::Runs::perform))]
-    fn step(
-        self,
-        op: u8,
-        a: u8,
-        b: u8,
-        c: u8,
-        table: &[u32],
-        guards: &[u32],
-        slot: &mut [u32],
-    ) -> Turned
-        requires { Ready self slot.old × Named op a b c × (length guards.now ≡ guard_words (length table.now)) }
-        ensures { Did self (perform (admits guards.now) table.now self (log_of slot.old) (ask_of op a b c self)) result slot.new }
+    fn step(self, i: Instruction, table: &[u32], guards: &[u32], slot: &mut [u32]) -> Turned
+        requires { Ready self slot.old × Named i.op i.a i.b i.c × (length guards.now ≡ guard_words (length table.now)) }
+        ensures { Did self (perform (admits guards.now) table.now self (log_of slot.old) (ask_of i.op i.a i.b i.c self)) result slot.new }
     {
+        let Instruction { op, a, b, c } = i;
         match op {
             0 => self.stops(Run::Finished),
             1 => self.set(a, b, c).goes(),
@@ -296,16 +290,7 @@ fn take_turns(program: &[u8], table: &[u32], guards: &[u32], slot: &mut [u32]) -
     let count = program.len() / image::Image::INSTRUCTION_BYTES;
     let mut machine = Machine::new();
     while machine.place < count {
-        let at = image::Image::INSTRUCTION_BYTES * machine.place;
-        let turned = machine.step(
-            program[at],
-            program[at + 1],
-            program[at + 2],
-            program[at + 3],
-            table,
-            guards,
-            slot,
-        );
+        let turned = machine.step(Instruction::at(program, machine.place), table, guards, slot);
         machine = turned.machine;
         if let Some(run) = turned.stopped {
             return Ended { run, machine };

@@ -147,7 +147,7 @@ fn guard_faulted(area: &[u32], cells: usize, number: usize) -> bool
     area::detail(area, cells, number) / machine::KIND_UNIT == machine::GUARD_FAULT as u32
 }
 
-// A word of the guards, 0 past the end.
+// A word of the guards, 0 past the end, as the page's definition reads it: a faulted store has its guard.
 fn end_at(guards: &[u32], at: usize) -> u32
     ensures { result ≡ get_or guards.now at 0 }
 {

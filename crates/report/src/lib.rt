@@ -84,7 +84,7 @@ fn run_on(
     run_in(image, table, guards, &mut areas[..words])
 }
 
-// How many programs the header names, 0 where that is over the limit: opening then refuses the image before it looks at the area.
+// How many programs the header names, 0 where that is over the limit, for which no area is needed: opening then refuses the image before it looks at one.
 #[tactic(auto, unfolding(crate::specs::Runs::programs_in))]
 fn programs_in(image: &[u8]) -> u16
     ensures { (result ≡ programs_in image.now) × (result ≤ max_programs) }

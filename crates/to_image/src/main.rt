@@ -12,7 +12,7 @@ fn main(rt: HostRuntime) {
         &rt,
         b"to_image",
         |sheet, page| {
-            if converted::LONGEST_INPUT < sheet.len() {
+            if converted::too_long(sheet) {
                 return Err(NoPage::TooLong);
             }
             Ok(converted::image_page(sheet, page))

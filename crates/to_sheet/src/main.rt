@@ -12,7 +12,7 @@ fn main(rt: HostRuntime) {
         &rt,
         b"to_sheet",
         |image, page| {
-            if converted::LONGEST_INPUT < image.len() {
+            if converted::too_long(image) {
                 return Err(NoPage::TooLong);
             }
             Ok(converted::sheet_page(image, page))

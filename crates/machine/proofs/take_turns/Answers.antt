@@ -12,18 +12,18 @@ step-turned-requires c =
     let r = c.requires in
     let l = c.loop-machine in
     let u = c.loop-machine-test.true in
-    (going_ready r.runnable l.invariant.1 u, instruction_named c.args.program.now r.runnable.good l.machine.place u, r.pairs)
+    (going_ready r.runnable l.invariant.1 u, instruction_named c.args.program.now r.runnable.good l.machine.place u c.at.result c.at.ensures, r.pairs)
 
 pub returns-in-Some : goal.returns-in-Some
-returns-in-Some c = going_stop c.requires.runnable c.loop-machine.invariant.1 c.loop-machine-test.true c.step-turned.ensures c.in-Some.is
+returns-in-Some c = going_stop c.requires.runnable c.loop-machine.invariant.1 c.loop-machine-test.true c.at.ensures c.step-turned.ensures c.in-Some.is
 
 pub loop-machine-smaller : goal.loop-machine-smaller
 loop-machine-smaller c =
-    omega (arith, going_forward c.requires.runnable c.loop-machine.invariant.1 c.loop-machine-test.true c.step-turned.ensures c.in_default.is)
+    omega (arith, going_forward c.requires.runnable c.loop-machine.invariant.1 c.loop-machine-test.true c.at.ensures c.step-turned.ensures c.in_default.is)
 
 pub loop-machine-preserved : goal.loop-machine-preserved
 loop-machine-preserved c =
-    (refl, going_next c.requires.runnable c.loop-machine.invariant.1 c.loop-machine-test.true c.step-turned.ensures c.in_default.is)
+    (refl, going_next c.requires.runnable c.loop-machine.invariant.1 c.loop-machine-test.true c.at.ensures c.step-turned.ensures c.in_default.is)
 
 pub returns : goal.returns
 returns c = going_end c.requires.runnable c.loop-machine.invariant.1 c.loop-machine-test.false
