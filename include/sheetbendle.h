@@ -47,14 +47,14 @@
  *     static const uint32_t guards[] = { SHEETBENDLE_GUARD(-20, 45), SHEETBENDLE_FULL_RANGE };
  *
  * What it needs. The archive is x86-64 code today, for the System V calling convention. From
- * outside it needs two functions, memcpy and memset. A call takes at most so many bytes of stack,
+ * outside it needs one function, memset. A call takes at most so many bytes of stack,
  * from the caller's frame down, with the arguments that lie there and the return address:
  *
  *     program   program_refusal   open   gather   settle   why   order   next_image   image_of   sheet_of
- *         177               161    225      529      305   257    1041          321        416        280
+ *         197               197    229      517      309   293    1045          357        360        277
  *
  * bench/run measures it, on x86-64, with the inputs that take the most, and tests/needs holds this
- * table to it. Where memcpy and memset are called, 100 of these bytes are left for their own.
+ * table to it. Where memset is called, 100 of these bytes are left for its own.
  *
  * Refusals. Every call may be lent anything: it checks first, in the order of the rows below (the
  * next image: 1 to 3, 41 to 44, 5, 14, 6, 7, 9, 21 to 23, 61 to 64, 11, 10; the image of a sheet: 51,
