@@ -3,7 +3,7 @@ ghost use Rattle.std.specs.Prelude.{◌≡◌, ℕ, ◌+◌, ◌≤◌, [], ◌�
 ghost use Rattle.text.specs.Decimal.{decimal};
 ghost use Rattle.text.specs.Filled.{shown, left, filled};
 
-// Copies bytes to a place of a slice: one by one, which is compiled to memcpy, while the library's copy needs memmove, and a board may not have it.
+// Copies bytes to a place of a slice: one by one, since the library's copy needs memmove, which a board may not have.
 fn copy_to(out: &mut [u8], at: usize, bytes: &[u8])
     requires { at + length bytes.now ≤ length out.old }
     ensures long { length out.new ≡ length out.old }
