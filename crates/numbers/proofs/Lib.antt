@@ -1,2 +1,3 @@
 pub mod Unique
+pub mod Taken
 pub mod Cases

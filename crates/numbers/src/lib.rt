@@ -1,15 +1,17 @@
 // The numbers of what gathering and settling answer (document 01, "What each refusal says") and of why a program was carried (document 02, ask 3).
+// Each is asked of an answer of this library, or of numbers that come from elsewhere, whichever they are.
 #![tactic(auto)]
 
 ghost use Rattle.std.specs.Prelude.{◌<◌, ◌^◌};
 ghost use Rattle.image.specs.Refusals.{numbers_of_count};
-ghost use Rattle.steps.specs.Answers.{done_with, refused_by, numbers_of_gathered, numbers_of_settled};
-ghost use Rattle.causes.specs.Why.{no_reason, numbers_for, numbers_of_why};
-ghost use Rattle.numbers.specs.Numbers.{Tells, CauseTells, CountTells};
+ghost use Rattle.steps.specs.Answers.{Numbers, done_with};
+ghost use Rattle.causes.specs.Why.{WhyNumbers, numbers_for};
+ghost use Rattle.numbers.specs.Numbers.{Tells, CauseTells, CountTells, refused_as, ended_as, fault_as, no_reason_as};
 
 use causes::{Cause, Why};
 use image::{Refusal, RefusalNumbers};
-use steps::Reason;
+use machine::Run;
+use steps::{Reason, Settled};
 
 // The refusal, or none with the slot's state and detail.
 #[repr(C)]
@@ -21,11 +23,11 @@ pub struct StepNumbers {
 }
 
 impl StepNumbers {
-    fn refused(refusal: Refusal) -> StepNumbers
-        ensures { Tells (refused_by refusal) result }
+    fn refused(refusal: RefusalNumbers) -> StepNumbers
+        ensures { Tells (refused_as refusal) result }
     {
         StepNumbers {
-            refusal: RefusalNumbers::from(refusal),
+            refusal,
             state: 0,
             detail: 0,
         }
@@ -42,24 +44,117 @@ impl StepNumbers {
     }
 }
 
+// How a program ended, by its numbers: a state and a detail, whichever they are.
+#[derive(Clone, Copy)]
+pub struct Ended {
+    pub state: u32,
+    pub detail: u32,
+}
+
+// A fault by its numbers: a kind and an instruction number, whichever they are.
+#[derive(Clone, Copy)]
+pub struct FaultNumbers {
+    pub kind: u8,
+    pub at: u8,
+}
+
+// An answer of gathering; where it comes by its numbers, they are those of a refusal, of a fault, or of how the program ended.
+pub trait GatherAnswer {
+    ghost numbers: { Self → Numbers };
+
+    // Its numbers.
+    fn numbers(self) -> StepNumbers
+        ensures { Tells (numbers self) result };
+}
+
+impl GatherAnswer for Result<Run, Refusal> {
+    ghost use Rattle.steps.specs.Answers.{numbers_of_gathered};
+
+    ghost numbers = { numbers_of_gathered };
+
+    fn numbers(self) -> StepNumbers {
+        match self {
+            Ok(run) => StepNumbers::done(machine::state_of(run), machine::detail_of(run)),
+            Err(refusal) => StepNumbers::refused(RefusalNumbers::from(refusal)),
+        }
+    }
+}
+
+impl GatherAnswer for RefusalNumbers {
+    ghost numbers = { refused_as };
+
+    fn numbers(self) -> StepNumbers {
+        StepNumbers::refused(self)
+    }
+}
+
+impl GatherAnswer for Ended {
+    ghost numbers = { ended_as };
+
+    fn numbers(self) -> StepNumbers {
+        StepNumbers::done(self.state, self.detail)
+    }
+}
+
+impl GatherAnswer for FaultNumbers {
+    ghost numbers = { fault_as };
+
+    fn numbers(self) -> StepNumbers {
+        let detail = machine::KIND_UNIT * u32::from(self.kind) + u32::from(self.at);
+        StepNumbers::done(slot::FAULTED, detail)
+    }
+}
+
 // Of gathering.
-pub fn of_gathered(answer: Result<machine::Run, Refusal>) -> StepNumbers
-    ensures { Tells (numbers_of_gathered answer) result }
+pub fn of_gathered<A: GatherAnswer>(answer: A) -> StepNumbers
+    ensures { Tells (A.numbers answer) result }
 {
-    match answer {
-        Ok(run) => StepNumbers::done(machine::state_of(run), machine::detail_of(run)),
-        Err(refusal) => StepNumbers::refused(refusal),
+    answer.numbers()
+}
+
+// An answer of settling, or its numbers, likewise.
+pub trait SettleAnswer {
+    ghost numbers: { Self → Numbers };
+
+    // Its numbers.
+    fn numbers(self) -> StepNumbers
+        ensures { Tells (numbers self) result };
+}
+
+impl SettleAnswer for Result<Settled, Refusal> {
+    ghost use Rattle.steps.specs.Answers.{numbers_of_settled};
+
+    ghost numbers = { numbers_of_settled };
+
+    fn numbers(self) -> StepNumbers {
+        match self {
+            Ok(settled) => StepNumbers::done(steps::state_of(settled), steps::detail_of(settled)),
+            Err(refusal) => StepNumbers::refused(RefusalNumbers::from(refusal)),
+        }
+    }
+}
+
+impl SettleAnswer for RefusalNumbers {
+    ghost numbers = { refused_as };
+
+    fn numbers(self) -> StepNumbers {
+        StepNumbers::refused(self)
+    }
+}
+
+impl SettleAnswer for Ended {
+    ghost numbers = { ended_as };
+
+    fn numbers(self) -> StepNumbers {
+        StepNumbers::done(self.state, self.detail)
     }
 }
 
 // Of settling.
-pub fn of_settled(answer: Result<steps::Settled, Refusal>) -> StepNumbers
-    ensures { Tells (numbers_of_settled answer) result }
+pub fn of_settled<A: SettleAnswer>(answer: A) -> StepNumbers
+    ensures { Tells (A.numbers answer) result }
 {
-    match answer {
-        Ok(settled) => StepNumbers::done(steps::state_of(settled), steps::detail_of(settled)),
-        Err(refusal) => StepNumbers::refused(refusal),
-    }
+    answer.numbers()
 }
 
 // The refusal, or none with the reason and its cause; the second pair is that of WAR.
@@ -75,11 +170,11 @@ pub struct CauseNumbers {
 }
 
 impl CauseNumbers {
-    fn refused(refusal: Refusal) -> CauseNumbers
-        ensures { CauseTells (no_reason refusal) result }
+    fn refused(refusal: RefusalNumbers) -> CauseNumbers
+        ensures { CauseTells (no_reason_as refusal) result }
     {
         CauseNumbers {
-            refusal: RefusalNumbers::from(refusal),
+            refusal,
             reason: 0,
             cell: 0,
             program: 0,
@@ -102,20 +197,48 @@ impl CauseNumbers {
     }
 }
 
-// Of why a program was carried: reasons 1 and 2 leave the second pair 0.
-pub fn of_why(answer: Result<Why, Refusal>) -> CauseNumbers
-    ensures { CauseTells (numbers_of_why answer) result }
-{
-    let none = Cause {
-        cell: 0,
-        program: 0,
-    };
-    match answer {
-        Ok(Why::Waw(cause)) => CauseNumbers::carried(Reason::Waw, cause, none),
-        Ok(Why::Raw(cause)) => CauseNumbers::carried(Reason::Raw, cause, none),
-        Ok(Why::RawWithWar(raw, war)) => CauseNumbers::carried(Reason::RawWithWar, raw, war),
-        Err(refusal) => CauseNumbers::refused(refusal),
+// An answer of `why`, or the numbers of a refusal.
+pub trait WhyAnswer {
+    ghost numbers: { Self → WhyNumbers };
+
+    // Its numbers.
+    fn numbers(self) -> CauseNumbers
+        ensures { CauseTells (numbers self) result };
+}
+
+// Reasons 1 and 2 leave the second pair 0.
+impl WhyAnswer for Result<Why, Refusal> {
+    ghost use Rattle.causes.specs.Why.{numbers_of_why};
+
+    ghost numbers = { numbers_of_why };
+
+    fn numbers(self) -> CauseNumbers {
+        let none = Cause {
+            cell: 0,
+            program: 0,
+        };
+        match self {
+            Ok(Why::Waw(cause)) => CauseNumbers::carried(Reason::Waw, cause, none),
+            Ok(Why::Raw(cause)) => CauseNumbers::carried(Reason::Raw, cause, none),
+            Ok(Why::RawWithWar(raw, war)) => CauseNumbers::carried(Reason::RawWithWar, raw, war),
+            Err(refusal) => CauseNumbers::refused(RefusalNumbers::from(refusal)),
+        }
     }
+}
+
+impl WhyAnswer for RefusalNumbers {
+    ghost numbers = { no_reason_as };
+
+    fn numbers(self) -> CauseNumbers {
+        CauseNumbers::refused(self)
+    }
+}
+
+// Of why a program was carried.
+pub fn of_why<A: WhyAnswer>(answer: A) -> CauseNumbers
+    ensures { CauseTells (A.numbers answer) result }
+{
+    answer.numbers()
 }
 
 // The refusal, or none with a count: of the listed order how many programs it has, of the next image how many bytes.

@@ -12,7 +12,9 @@
 // Once all are settled, `why` says why a program was carried, and `comes_before` before whom a program comes that read a cell as it was.
 // A sheet is an image as a text that can be typed: `image_of` reads a sheet and writes its image, `sheet_of` reads an image and writes its sheet.
 // Beside these, `program` hands back one program as a part of the image, and `program_refusal` says why it does not.
-// `second_rule` says whether Rule 2 is in force; `of_gathered`, `of_settled` and `of_why` give the numbers of an answer.
+// `second_rule` says whether Rule 2 is in force; `of_gathered`, `of_settled` and `of_why` give the numbers of an answer. Where an answer comes by its
+// numbers, as from another board, they take a `RefusalNumbers` of any three, the first two an `Ended` of any state and detail, and the first a
+// `FaultNumbers` of any kind and instruction number.
 // Every call answers for every input. A refusal changes nothing that was lent; `RefusalNumbers::from` gives its number in document 01, of `Ok(())` 0.
 #![tactic(auto)]
 
@@ -28,7 +30,10 @@ pub use image::{
 };
 pub use listing::order;
 pub use machine::{FaultKind, Run};
-pub use numbers::{CauseNumbers, StepNumbers, of_gathered, of_settled, of_why};
+pub use numbers::{
+    CauseNumbers, Ended, FaultNumbers, GatherAnswer, SettleAnswer, StepNumbers, WhyAnswer,
+    of_gathered, of_settled, of_why,
+};
 pub use sheet::Unwritten;
 pub use steps::{Reason, Settled, gather, open, settle};
 
