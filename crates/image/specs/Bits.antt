@@ -1,5 +1,5 @@
 -- How the code tests the bytes of an instruction at once: the kinds by the bits that are 0 in a good byte. Nothing of it is to be believed: the proof of
--- `instruction_good` compares it with the table. Assumes nothing.
+-- `Instruction::is_good` compares it with the table. Assumes nothing.
 use Rattle.std.specs.Prelude.{ℕ, ◌+◌, ◌*◌, ◌≡◌, Bool, cond, Option, Some, None}
 use Rattle.image.specs.declared.instruction.Row.{Row}
 use Rattle.image.specs.Instruction.{Kind, Kinds, register, unused, skip, free, known, kinds_of}

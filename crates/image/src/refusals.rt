@@ -104,7 +104,7 @@ impl RefusalNumbers {
     };
 
     // What a refusal of an image adds to its number where the fresh image earns it.
-    const FRESH: u32 = 20;
+    pub const FRESH: u32 = 20;
 
     // A number that has no place.
     fn of(number: u32) -> RefusalNumbers

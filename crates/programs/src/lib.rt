@@ -4,6 +4,12 @@
 
 ghost use Rattle.std.specs.Prelude.{◌≡◌, ◌≤◌, ◌<◌, ◌^◌, length, IfOk};
 
+// The words about an input that is longer than any that is taken; the number is `converted::LONGEST_INPUT`.
+pub const TOO_LONG: [u8; 38] = *b"the input is longer than 1048576 bytes";
+
+// The words about a batch that has no programs.
+pub const NO_PROGRAMS: [u8; 25] = *b"the batch has no programs";
+
 // Why no page is made of an input.
 #[derive(Clone, Copy)]
 pub enum NoPage {
@@ -14,8 +20,8 @@ pub enum NoPage {
 impl NoPage {
     fn words(self) -> &'static [u8] {
         match self {
-            NoPage::TooLong => b"the input is longer than 1048576 bytes",
-            NoPage::NoPrograms => b"the batch has no programs",
+            NoPage::TooLong => &TOO_LONG,
+            NoPage::NoPrograms => &NO_PROGRAMS,
         }
     }
 }

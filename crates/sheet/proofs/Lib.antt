@@ -5,3 +5,4 @@ pub mod Cases
 pub mod Lines
 pub mod Sheets
 pub mod Splits
+pub mod Sizes

@@ -67,8 +67,14 @@ impl From<ImageRefusal> for Unwritten {
     }
 }
 
-// The names of the operations, each in the place of its number: document 01, "Instructions".
-static NAMES: [&[u8]; 9] = [
+// How many operations there are: document 01, "Instructions".
+pub const OPERATIONS: usize = 9;
+
+// How many bytes the longest of their names has.
+pub const NAME_BYTES: usize = 9;
+
+// The names of the operations, each in the place of its number.
+static NAMES: [&[u8]; OPERATIONS] = [
     b"end",
     b"set",
     b"load",
