@@ -10,3 +10,4 @@ pub mod LowestCells
 pub mod Cases
 pub mod CheckCases
 pub mod Unique
+pub mod Sizes

@@ -1,3 +1,4 @@
 pub mod Pages
 pub mod Cases
 pub mod Unique
+pub mod Sizes

@@ -14,9 +14,13 @@ use image::{ImageRefusal, Refusal, RefusalNumbers};
 use sheet::Unwritten;
 use text::Page;
 
-// The longest input that the two programs take, and whether one is longer.
+// The longest input that the two programs take.
 pub const LONGEST_INPUT: usize = 1048576;
 
+// The room that one is read into: a byte more, by which a longer one is told.
+pub const INPUT: usize = LONGEST_INPUT + 1;
+
+// Whether an input is longer.
 pub fn too_long(input: &[u8]) -> bool
     ensures { result ≡ too_long input.now }
 {

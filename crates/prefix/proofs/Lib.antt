@@ -1,3 +1,4 @@
 pub mod Prefixes
 pub mod Cases
 pub mod Unique
+pub mod Sizes

@@ -3,3 +3,4 @@ pub mod GuardFaults
 pub mod Short
 pub mod Unique
 pub mod Cases
+pub mod Sizes

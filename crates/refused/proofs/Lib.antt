@@ -3,3 +3,4 @@ pub mod Wheres
 pub mod Cases
 pub mod WhereCases
 pub mod Unique
+pub mod Sizes

@@ -2,3 +2,4 @@ pub mod Batches
 pub mod Pages
 pub mod Unique
 pub mod Cases
+pub mod Sizes

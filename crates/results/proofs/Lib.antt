@@ -1,3 +1,4 @@
 pub mod Short
 pub mod Unique
 pub mod Cases
+pub mod Sizes

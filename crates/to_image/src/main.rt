@@ -4,11 +4,8 @@
 use image::Image;
 use programs::NoPage;
 
-// One byte more than the longest input, by which a longer one is told.
-const INPUT: usize = converted::LONGEST_INPUT + 1;
-
 fn main(rt: HostRuntime) {
-    programs::run::<INPUT, { Image::BYTES }, { refused::WHERE_AT_BYTES }, _, _>(
+    programs::run::<{ converted::INPUT }, { Image::BYTES }, { refused::WHERE_AT_BYTES }, _, _>(
         &rt,
         b"to_image",
         |sheet, page| {

@@ -3,12 +3,15 @@
 
 use programs::NoPage;
 
-// One byte more than the longest input, by which a longer one is told.
-const INPUT: usize = converted::LONGEST_INPUT + 1;
-
 #[tactic(auto, unfolding(from_image::specs::Longest::longest_sheet))]
 fn main(rt: HostRuntime) {
-    programs::run::<INPUT, { from_image::LONGEST_SHEET }, { refused::WHERE_BYTES }, _, _>(
+    programs::run::<
+        { converted::INPUT },
+        { from_image::LONGEST_SHEET },
+        { refused::WHERE_BYTES },
+        _,
+        _,
+    >(
         &rt,
         b"to_sheet",
         |image, page| {
