@@ -1,3 +1,4 @@
+pub mod Prefixes
 pub mod Unique
 pub mod Cases
 pub mod ReadBack
