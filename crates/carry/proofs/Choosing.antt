@@ -14,9 +14,9 @@ use Rattle.image.proofs.Refusing.{first_passes}
 use Rattle.text.specs.Writing.{Wrote}
 use Rattle.writer.proofs.Programs.{good_source}
 use Rattle.carry.specs.declared.Chosen.{Chosen}
-use Rattle.carry.specs.Next.{carried_count, next_programs, next_image, lent_refusal, size_refusal, next_refusal, NextSays}
-use Rattle.carry.specs.Sources.{Choice, Sources, image_from}
-use Rattle.carry.proofs.Sources.{carried_counted, carried_programs, fresh_counted, fresh_programs}
+use Rattle.carry.specs.Next.{carried_count, next_image, lent_refusal, size_refusal, next_refusal, NextSays}
+use Rattle.carry.specs.Sources.{ByMask, Choice, Sources, image_from}
+use Rattle.carry.proofs.Sources.{carried_counted, fresh_counted, from_is}
 use Rattle.carry.proofs.Checks.{lent_shows, next_refused, next_done}
 
 module _ (image t g a fresh : List ℕ) {c : Chosen} (lent : lent_refusal image t g a fresh ≡ passed) (k : Choice image (length t) a fresh c) where
@@ -32,9 +32,11 @@ module _ (image t g a fresh : List ℕ) {c : Chosen} (lent : lent_refusal image 
         few = omega (arith, k.counted, count_le (has_bit c.mask) c.n, old.few, new.few);
       }
 
+  by_mask : ByMask image c.n c.mask fresh c.m c.programs c
+  by_mask = record { image_is = k.image_is; fresh_is = k.fresh_is; n_is = refl; m_is = refl; mask_is = refl; all_is = k.all_is; programs_is = refl }
+
   image_is : image_from c ≡ next_image (length t) image a fresh
-  unfolding image_from next_image next_programs
-  image_is = rw (k.image_is, k.fresh_is, carried_programs (length t) a image k.n_is k.mask_is, fresh_programs fresh k.m_is k.all_is)
+  image_is = from_is (length t) a image k.n_is k.mask_is fresh k.m_is by_mask
 
   module _ (out : List ℕ) where
     size_is : size_refusal c.programs (image_from c) out ≡ next_refusal image t g a fresh out

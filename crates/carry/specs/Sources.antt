@@ -11,6 +11,16 @@ use Rattle.writer.specs.Picked.{picked}
 use Rattle.writer.specs.Writing.{Source}
 use Rattle.carry.specs.declared.Chosen.{Chosen}
 
+-- the programs of an image that a mask has, and all of the fresh image's
+pub record ByMask (image : List ℕ) (n mask : ℕ) (fresh : List ℕ) (m programs : ℕ) (c : Chosen) : Type 0 where
+  pub image_is : c.image.now ≡ image
+  pub fresh_is : c.fresh.now ≡ fresh
+  pub n_is : c.n ≡ n
+  pub m_is : c.m ≡ m
+  pub mask_is : c.mask ≡ mask
+  pub all_is : c.all ≡ mask_of (λ k. true) m
+  pub programs_is : c.programs ≡ programs
+
 -- the carried programs of a batch for T cells, and all of the fresh image's
 pub record Choice (image : List ℕ) (T : ℕ) (a fresh : List ℕ) (c : Chosen) : Type 0 where
   pub image_is : c.image.now ≡ image

@@ -3,6 +3,7 @@
 
 ghost use Rattle.std.specs.Prelude.{◌≡◌, ◌≤◌, length};
 ghost use Rattle.text.specs.Writing.{Wrote};
+ghost use Rattle.image.specs.Limits.{max_programs};
 ghost use Rattle.image.specs.Refusals.{passed};
 ghost use Rattle.image.specs.Image.{refusal_of};
 ghost use Rattle.area.specs.Checks.{Checked};
@@ -23,7 +24,30 @@ pub struct Chosen<'a> {
 }
 
 impl<'a> Chosen<'a> {
-    ghost use Rattle.carry.specs.Sources.{Choice, Sources, image_from};
+    ghost use Rattle.carry.specs.Sources.{ByMask, Choice, Sources, image_from};
+
+    // Of an image's n programs those that a mask has, and all m of the fresh image's, where it is counted already how many they are together.
+    pub fn by_mask(
+        image: &'a [u8],
+        n: usize,
+        mask: u64,
+        fresh: &'a [u8],
+        m: usize,
+        programs: usize,
+    ) -> Chosen<'a>
+        requires { m ≤ max_programs }
+        ensures { ByMask image.now n mask fresh.now m programs result }
+    {
+        Chosen {
+            image,
+            n,
+            mask,
+            fresh,
+            m,
+            all: masks::all(m),
+            programs,
+        }
+    }
 
     // The carried programs and all of the fresh image's, where the checks of all that is lent have been made.
     #[tactic(auto, using(area::proofs::Checks::few))]
@@ -34,16 +58,7 @@ impl<'a> Chosen<'a> {
         let n = image::count(image);
         let m = image::count(fresh);
         let mask = area::members(area, table.len(), n, slot::Group::Carried);
-        let programs = masks::count(mask, n) + m;
-        Chosen {
-            image,
-            n,
-            mask,
-            fresh,
-            m,
-            all: masks::all(m),
-            programs,
-        }
+        Chosen::by_mask(image, n, mask, fresh, m, masks::count(mask, n) + m)
     }
 
     // The next image's length, for check 10.
