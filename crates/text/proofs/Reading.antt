@@ -94,6 +94,14 @@ module _ (w : List ℕ) (k v : ℕ) (h : k < length w) where
 -- ---- what the tests and the number tell
 
 module _ (w : List ℕ) (largest : ℕ) where
+  pub no_lead : leads w ≡ false → Err NoNumber ≡ numeral largest w
+  unfolding numeral is_number
+  no_lead e = rw e (go (all_digits w))
+    where
+      go : (d : Bool) → Err NoNumber ≡ cond (d && false) (cond (leb (value w) largest) (Ok (value w)) (Err TooLarge)) (Err NoNumber)
+      go true = refl
+      go false = refl
+
   pub no_digits : (e : Misread) → Err e ≡ read 0 w → Err e ≡ numeral largest w
   unfolding numeral is_number
   no_digits e h = go (all_digits w) h
@@ -110,10 +118,6 @@ module _ (w : List ℕ) (largest : ℕ) where
         go : (d : Bool) → Ok v ≡ cond d (Ok (capped (value w))) (Err NoNumber) → (d ≡ true) × (v ≡ capped (value w))
         go true h = (refl, cc)
         go false h = absurd cc
-
-    pub no_lead : leads w ≡ false → Err NoNumber ≡ numeral largest w
-    unfolding numeral is_number
-    no_lead e = rw (are_digits.0, e)
 
     module _ (l : leads w ≡ true) (small : largest < over) where
       pub too_large : largest < v → Err TooLarge ≡ numeral largest w

@@ -62,14 +62,14 @@ fn value_of(word: &[u8]) -> Result<u64, Misread>
     Ok(v)
 }
 
-// Reads a word as a number up to the largest that is meant.
+// Reads a word as a number up to the largest that is meant. How it begins is asked first, so that one that begins with a 0 is not read through.
 pub fn number_of(word: &[u8], largest: u32) -> Result<u32, Misread>
     ensures { result ≡ numeral largest word.now }
 {
-    let v = value_of(word)?;
     if !leads(word) {
         return Err(Misread::NoNumber);
     }
+    let v = value_of(word)?;
     if (largest as u64) < v {
         return Err(Misread::TooLarge);
     }

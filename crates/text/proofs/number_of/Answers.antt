@@ -11,7 +11,7 @@ returns-in_err-v c =
     rw (p.1, p.2) (no_digits _ _ _ c.in_err-v.ensures)
 
 pub returns-then-not-leads : goal.returns-then-not-leads
-returns-then-not-leads c = no_lead _ _ _ c.in_ok-v.ensures (sym c.leads.ensures ∙ c.if-not-leads.true)
+returns-then-not-leads c = no_lead _ _ (sym c.leads.ensures ∙ c.if-not-leads.true)
 
 pub returns-then-largest-v : goal.returns-then-largest-v
 returns-then-largest-v c = too_large _ _ _ c.in_ok-v.ensures (sym c.leads.ensures ∙ c.if-not-leads.false) (omega arith) (omega arith)
