@@ -51,7 +51,7 @@
  * from the caller's frame down, with the arguments that lie there and the return address:
  *
  *     program   program_refusal   open   gather   settle   why   order   next_image   image_of   sheet_of
- *         197               197    229      517      309   293    1045          357        360        277
+ *         197               197    229      517      309   293    1045          357        344        277
  *
  * bench/run measures it, on x86-64, with the inputs that take the most, and tests/needs holds this
  * table to it. Where memset is called, 100 of these bytes are left for its own.
