@@ -94,7 +94,7 @@ fn read_words(rt: &impl Env, program: &[u8], kind: Kind, list: &mut [u32]) -> bo
 
 // The arguments as words, at the front of what is lent, and how many they are; none after a complaint.
 #[tactic(auto, using(arguments::proofs::Said::most_ends))]
-fn read(rt: &impl Env, program: &[u8], kind: Kind, list: &mut [u32]) -> Option<usize>
+pub fn read(rt: &impl Env, program: &[u8], kind: Kind, list: &mut [u32]) -> Option<usize>
     requires { most_arguments kind ≤ length list.old }
     ensures few { IfSome result (λ n. n ≤ most_arguments kind) }
     ensures same_room { length list.new ≡ length list.old }
